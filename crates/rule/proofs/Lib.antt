@@ -1,0 +1,2 @@
+-- The theorems about the meaning, and the laws they rest on, one concept to a file.
+pub mod Marked
