@@ -1,2 +1,5 @@
 -- The theorems about the meaning, and the laws they rest on, one concept to a file.
+pub mod Bools
+pub mod Func
+pub mod Cubes
 pub mod Marked
