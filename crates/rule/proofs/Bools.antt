@@ -114,3 +114,12 @@ and-over-or false b c = refl
 pub and-false-r : (a : Bool) → (a && false) ≡ false
 and-false-r true = refl
 and-false-r false = refl
+
+pub or-none : (a : Bool) → (a || false) ≡ a
+or-none true = refl
+or-none false = refl
+
+-- Either a, or b where a is not.
+pub or-otherwise : (a b : Bool) → (a ≡ false → b ≡ true) → (a || b) ≡ true
+or-otherwise true b h = refl
+or-otherwise false b h = h refl

@@ -2,4 +2,6 @@
 pub mod Bools
 pub mod Func
 pub mod Cubes
+pub mod Steps
+pub mod Cover
 pub mod Marked
