@@ -1,4 +1,12 @@
 -- The theorems about the meaning, and the laws they rest on, one concept to a file.
+pub mod Bools
+pub mod Func
+pub mod Cubes
+pub mod Steps
+pub mod Cover
+pub mod Picks
+pub mod Irredundant
+pub mod Honest
 pub mod Trees
 pub mod Sets
 pub mod Growth
