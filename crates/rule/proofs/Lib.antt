@@ -10,4 +10,7 @@ pub mod Honest
 pub mod Trees
 pub mod Sets
 pub mod Growth
+pub mod Places
+pub mod Nodes
+pub mod Fixed
 pub mod Marked

@@ -1,19 +1,13 @@
 -- Sets of functions: what a set has after additions, lists all of whose functions are in a set, and additions that
 -- change nothing, since a function that is present is not added again.
 use mathlib.Core.Path.{_≡_, refl, sym, ap, subst, _∙_}
-use mathlib.Core.Bool.{Bool, true, false, cond, _||_, true≢false, or-assoc, or-false, or-true}
+use mathlib.Core.Bool.{Bool, true, false, cond, _||_, false≢true}
 use mathlib.Core.List.{List, [], _∷_, _++_}
 use Rattle.rule.specs.Nodes.{Tree, sameTree, has, add, addAll}
+use Rattle.rule.proofs.Bools.{or-left, or-right, or-assoc, or-none, or-false, must-be-false, clash}
 use Rattle.rule.proofs.Trees.{same-trees-equal, tree-same-as-itself}
 
--- A disjunction that is true, by its parts.
-pub or-first : (a b : Bool) → a ≡ true → (a || b) ≡ true
-or-first a b e = rw e
-
-pub or-second : (a b : Bool) → b ≡ true → (a || b) ≡ true
-or-second a b e = rw (e, or-true)
-
-pub or-cases : {A : Type 0} (a b : Bool) → (a || b) ≡ true → (a ≡ true → A) → (b ≡ true → A) → A
+or-cases : {A : Type 0} (a b : Bool) → (a || b) ≡ true → (a ≡ true → A) → (b ≡ true → A) → A
 or-cases true b e p q = p refl
 or-cases false b e p q = q e
 
@@ -30,20 +24,21 @@ pub has-append : (xs ys : List Tree) (t : Tree) → has (xs ++ ys) t ≡ (has xs
 unfolding has
 has-append [] ys t = refl
 has-append (x ∷ xs) ys t =
-    has-step x (xs ++ ys) t ∙ rw (has-append xs ys t, has-step x xs t) (sym (or-assoc (sameTree x t) (has xs t) (has ys t)))
+    has-step x (xs ++ ys) t ∙ rw (has-append xs ys t, has-step x xs t) (or-assoc (sameTree x t) (has xs t) (has ys t))
 
 pub has-first : (xs ys : List Tree) (t : Tree) → has xs t ≡ true → has (xs ++ ys) t ≡ true
-has-first xs ys t e = has-append xs ys t ∙ or-first (has xs t) (has ys t) e
+has-first xs ys t e = has-append xs ys t ∙ or-left (has xs t) (has ys t) e
 
 pub has-second : (xs ys : List Tree) (t : Tree) → has ys t ≡ true → has (xs ++ ys) t ≡ true
-has-second xs ys t e = has-append xs ys t ∙ or-second (has xs t) (has ys t) e
+has-second xs ys t e = has-append xs ys t ∙ or-right (has xs t) (has ys t) e
 
-pub has-append-cases : {A : Type 0} (xs ys : List Tree) (t : Tree) → has (xs ++ ys) t ≡ true → (has xs t ≡ true → A) → (has ys t ≡ true → A) → A
+pub has-append-cases :
+    {A : Type 0} (xs ys : List Tree) (t : Tree) → has (xs ++ ys) t ≡ true → (has xs t ≡ true → A) → (has ys t ≡ true → A) → A
 has-append-cases xs ys t e p q = or-cases (has xs t) (has ys t) (sym (has-append xs ys t) ∙ e) p q
 
 pub has-one : (s t : Tree) → has (s ∷ []) t ≡ sameTree s t
 unfolding has
-has-one s t = has-step s [] t ∙ or-false (sameTree s t)
+has-one s t = has-step s [] t ∙ or-none (sameTree s t)
 
 pub has-itself : (t : Tree) → has (t ∷ []) t ≡ true
 has-itself t = has-one t t ∙ tree-same-as-itself t
@@ -79,21 +74,22 @@ has-add S s t = go (has S s) refl
 -- Additions in turn.
 pub has-addAll : (S ts : List Tree) (t : Tree) → has (addAll S ts) t ≡ (has S t || has ts t)
 unfolding addAll has
-has-addAll S [] t = sym (or-false (has S t))
+has-addAll S [] t = sym (or-none (has S t))
 has-addAll S (s ∷ ts) t =
-    has-addAll (add S s) ts t ∙ rw (has-add S s t, has-step s ts t) (or-assoc (has S t) (sameTree s t) (has ts t))
+    has-addAll (add S s) ts t ∙ rw (has-add S s t, has-step s ts t) (sym (or-assoc (has S t) (sameTree s t) (has ts t)))
 
 pub addAll-keeps : (S ts : List Tree) (t : Tree) → has S t ≡ true → has (addAll S ts) t ≡ true
-addAll-keeps S ts t e = has-addAll S ts t ∙ or-first (has S t) (has ts t) e
+addAll-keeps S ts t e = has-addAll S ts t ∙ or-left (has S t) (has ts t) e
 
 pub addAll-adds : (S ts : List Tree) (t : Tree) → has ts t ≡ true → has (addAll S ts) t ≡ true
-addAll-adds S ts t e = has-addAll S ts t ∙ or-second (has S t) (has ts t) e
+addAll-adds S ts t e = has-addAll S ts t ∙ or-right (has S t) (has ts t) e
 
-pub addAll-cases : {A : Type 0} (S ts : List Tree) (t : Tree) → has (addAll S ts) t ≡ true → (has S t ≡ true → A) → (has ts t ≡ true → A) → A
+pub addAll-cases :
+    {A : Type 0} (S ts : List Tree) (t : Tree) → has (addAll S ts) t ≡ true → (has S t ≡ true → A) → (has ts t ≡ true → A) → A
 addAll-cases S ts t e p q = or-cases (has S t) (has ts t) (sym (has-addAll S ts t) ∙ e) p q
 
 pub addAll-adds-no-other : (S ts : List Tree) (t : Tree) → has S t ≡ false → has ts t ≡ false → has (addAll S ts) t ≡ false
-addAll-adds-no-other S ts t e h = has-addAll S ts t ∙ rw (e, h)
+addAll-adds-no-other S ts t e h = has-addAll S ts t ∙ or-false (has S t) (has ts t) e h
 
 pub addAll-append : (S xs ys : List Tree) → addAll S (xs ++ ys) ≡ addAll (addAll S xs) ys
 unfolding addAll
@@ -110,9 +106,10 @@ all-in-itself S = record { inside = λ t e. e }
 pub all-in-through : {S T ts : List Tree} → AllIn S T → AllIn T ts → AllIn S ts
 all-in-through p q = record { inside = λ t e. p .inside t (q .inside t e) }
 
+-- By the list's parts.
 pub all-in-none : (S : List Tree) → AllIn S []
 unfolding has
-all-in-none S = record { inside = λ t e. absurd (true≢false (sym e)) }
+all-in-none S = record { inside = λ t e. absurd (false≢true e) }
 
 pub all-in-one : (S : List Tree) (t : Tree) → has S t ≡ true → AllIn S (t ∷ [])
 all-in-one S t e = record { inside = λ u h. has-same S t u e (sym (has-one t u) ∙ h) }
@@ -135,6 +132,7 @@ all-in-head t ts p = p .inside t (has-first (t ∷ []) ts t (has-itself t))
 pub all-in-tail : {S : List Tree} (t : Tree) (ts : List Tree) → AllIn S (t ∷ ts) → AllIn S ts
 all-in-tail t ts p = all-in-second (t ∷ []) ts p
 
+-- In a longer list, in a set that grew.
 pub all-in-longer-first : {ts : List Tree} (xs ys : List Tree) → AllIn xs ts → AllIn (xs ++ ys) ts
 all-in-longer-first xs ys p = record { inside = λ t e. has-first xs ys t (p .inside t e) }
 
@@ -152,12 +150,9 @@ all-in-addAll S ts p q = record { inside = λ t e. addAll-cases S ts t e (p .ins
 
 -- What a set has not, none of its lists has.
 pub not-inside : {S ts : List Tree} → AllIn S ts → (t : Tree) → has S t ≡ false → has ts t ≡ false
-not-inside {S} {ts} p t e = go (has ts t) refl
-  where
-    go : (b : Bool) → has ts t ≡ b → b ≡ false
-    go true h = sym (p .inside t h) ∙ e
-    go false h = refl
+not-inside {ts} p t e = must-be-false (has ts t) (λ h. clash (p .inside t h) e)
 
+-- Lists have the same members if each is in the other.
 pub same-members-inside : (xs ys : List Tree) → ((t : Tree) → has xs t ≡ has ys t) → AllIn ys xs
 same-members-inside xs ys h = record { inside = λ t e. sym (h t) ∙ e }
 
@@ -187,6 +182,7 @@ adding-again-adds-nothing S ts = all-present-add-nothing (addAll S ts) ts (all-a
 pub present-last-adds-nothing : (S xs ys : List Tree) → AllIn (addAll S xs) ys → addAll S (xs ++ ys) ≡ addAll S xs
 present-last-adds-nothing S xs ys p = addAll-append S xs ys ∙ all-present-add-nothing (addAll S xs) ys p
 
-pub present-between-adds-nothing : (S xs ys zs : List Tree) → AllIn (addAll S xs) ys → addAll S (xs ++ ys ++ zs) ≡ addAll S (xs ++ zs)
+pub present-between-adds-nothing :
+    (S xs ys zs : List Tree) → AllIn (addAll S xs) ys → addAll S (xs ++ ys ++ zs) ≡ addAll S (xs ++ zs)
 present-between-adds-nothing S xs ys zs p =
     addAll-append S (xs ++ ys) zs ∙ rw (present-last-adds-nothing S xs ys p) (sym (addAll-append S xs zs))
