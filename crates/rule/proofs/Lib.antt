@@ -4,4 +4,7 @@ pub mod Func
 pub mod Cubes
 pub mod Steps
 pub mod Cover
+pub mod Picks
+pub mod Irredundant
+pub mod Honest
 pub mod Marked
