@@ -123,3 +123,8 @@ or-none false = refl
 pub or-otherwise : (a b : Bool) → (a ≡ false → b ≡ true) → (a || b) ≡ true
 or-otherwise true b h = refl
 or-otherwise false b h = h refl
+
+pub or-swap : (a b c : Bool) → (a || (b || c)) ≡ (b || (a || c))
+or-swap true true c = refl
+or-swap true false c = refl
+or-swap false b c = refl

@@ -106,11 +106,11 @@ module _ (m : ℕ) (list : Fn m → Fn m → List Cube) (ih : (L : Fn m) (U : Fn
   on-side true q t = or-otherwise (coversAny m (listB m list L U) q) (coversAny m (listC m list L U) q) (λ n. covers-C .on q (left-1 q (is-left m (L .1) (listB m list L U) q t n)))
 
   -- What list C covers lies in both halves' upper roots.
-  C-in-0 : (q : Pt) → coversAny m (listC m list L U) q ≡ true → at m (U .0) q ≡ true
+  pub C-in-0 : (q : Pt) → coversAny m (listC m list L U) q ≡ true → at m (U .0) q ≡ true
   unfolding U0andU1
   C-in-0 q t = and-left (at m (U .0) q) (at m (U .1) q) (sym (at-both m (U .0) (U .1) q) ∙ covers-C .off q t)
 
-  C-in-1 : (q : Pt) → coversAny m (listC m list L U) q ≡ true → at m (U .1) q ≡ true
+  pub C-in-1 : (q : Pt) → coversAny m (listC m list L U) q ≡ true → at m (U .1) q ≡ true
   unfolding U0andU1
   C-in-1 q t = and-right (at m (U .0) q) (at m (U .1) q) (sym (at-both m (U .0) (U .1) q) ∙ covers-C .off q t)
 

@@ -40,6 +40,11 @@ pub list-step3 : (m : ℕ) (L : Fn (suc m)) (U : Fn (suc m)) → always false (s
 unfolding listOf
 list-step3 m L U e e′ = step3 (always false (suc m) L) (always true (suc m) U) _ _ e e′
 
+-- Where no column is left, step 3 is none.
+pub list-end : (L : Fn zero) (U : Fn zero) → always false zero L ≡ false → always true zero U ≡ false → listOf zero L U ≡ []
+unfolding listOf
+list-end L U e e′ = step3 (always false zero L) (always true zero U) _ _ e e′
+
 -- What holds of a list after each of the three steps holds of the rule's list.
 pub by-step : (P : List Cube → Type 0) (m : ℕ) (L : Fn m) (U : Fn m) →
     (always false m L ≡ true → P []) →
