@@ -9,6 +9,7 @@ pub mod Irredundant
 pub mod Honest
 pub mod Trees
 pub mod Sets
+pub mod Parts
 pub mod Growth
 pub mod Places
 pub mod Nodes
