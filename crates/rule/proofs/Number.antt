@@ -12,10 +12,10 @@ use lib.Count.{ones, onesIn, ones-step, ones-cat}
 use lib.Dec.{eqb, lit<}
 use lib.Pow.{pow-mono}
 use borrow.Author.Tests.{eqb-true}
-use Rattle.rule.specs.Point.{Pt, bit, odd, digits, lead, rest}
+use Rattle.rule.specs.Point.{bit, odd, digits, lead, rest}
 use Rattle.rule.specs.Cube.{Sign, sign0, sign1, dash, Cube, leadSign, restSigns, permits, covers, isLiteral, countIf, literals}
 use Rattle.rule.specs.Number.{isOne, isZero, onesOf, zerosOf, cubeNumber, signOf, signsFrom, signs, apart, wellFormed, agree, numberCovers, literalSum}
-use Rattle.rule.proofs.Points.{odd-true, odd-false, odd-put, half-put, put-odd, put-below}
+use Rattle.rule.proofs.Points.{odd-put, half-put, put-odd, put-below}
 
 -- One column: the sign and its two bits.
 sign-of-bits : (s : Sign) → signOf (isOne s) (isZero s) ≡ s
@@ -98,9 +98,10 @@ unfolding onesOf zerosOf signsFrom apart
 halves-signsFrom zero o z e = let t = none-set o z e in (sym (t .0), sym (t .1))
 halves-signsFrom (suc m) o z e =
     let t = first-apart m o z e in
-    let h = halves-signsFrom m (o / 2) (z / 2) (t .1) in
-    ( ap₂ (λ b n. bit b + 2 * n) (one-of-sign (odd o) (odd z)) (h .0) ∙ put-odd o,
-      ap₂ (λ b n. bit b + 2 * n) (zero-of-sign (odd o) (odd z) (t .0)) (h .1) ∙ put-odd z)
+    let h = halves-signsFrom m (o / 2) (z / 2) (t .1) in (
+      ap₂ (λ b n. bit b + 2 * n) (one-of-sign (odd o) (odd z)) (h .0) ∙ put-odd o,
+      ap₂ (λ b n. bit b + 2 * n) (zero-of-sign (odd o) (odd z) (t .0)) (h .1) ∙ put-odd z,
+    )
 
 agree-none : (n p : ℕ) → agree n 0 0 p ≡ true
 unfolding agree odd
@@ -127,7 +128,8 @@ literals-signsFrom zero o z e =
 literals-signsFrom (suc m) o z e =
     let t = first-apart m o z e in
     let h = literals-signsFrom m (o / 2) (z / 2) (t .1) in
-    omega (arith, ones-step o, ones-step z, put-odd o, put-odd z, literal-by-bits (odd o) (odd z) (literals (signsFrom m (o / 2) (z / 2))) (t .0))
+    let l = literal-by-bits (odd o) (odd z) (literals (signsFrom m (o / 2) (z / 2))) (t .0) in
+    omega (arith, ones-step o, ones-step z, put-odd o, put-odd z)
 
 -- The two halves of the number of a cube of at most 16 columns, and what they stay below.
 record Halves (c : Cube) : Type 0 where

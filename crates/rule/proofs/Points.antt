@@ -1,14 +1,14 @@
 -- Numbers of points: a number and the digits of a point go back and forth, a reading tells points of the same columns
 -- apart, and the order of readings is not the order of numbers. Each law goes column by column: a number is its lowest
 -- bit and its half.
-use mathlib.Core.Path.{_≡_, refl, sym, ap, ap₂, _∙_, subst, subst⁻¹}
+use mathlib.Core.Path.{_≡_, refl, sym, ap, ap₂, _∙_, subst}
 use mathlib.Core.Bool.{Bool, true, false}
 use mathlib.Core.List.{[], _∷_}
 use Prim.Native.Nat.{ℕ, zero, suc, _+_, _*_, _/_, _%_, _^_, _<_}
 use native.Mathlib.Nat.{pow-succ'}
 use native.Mathlib.Omega.{arith}
 use lib.ListN.{length}
-use lib.Dec.{eqb, lit<}
+use lib.Dec.{lit<}
 use lib.Arith.{lt-one}
 use borrow.Author.Tests.{eqb-true, eqb-false, eq-eqb, ne-eqb}
 use Rattle.rule.specs.Point.{Pt, bit, odd, pointNumber, digits, reading}
@@ -83,27 +83,22 @@ reading-below [] = lit< tt
 reading-below (false ∷ p) = omega (arith, pow-succ' 2 (length p), reading-below p)
 reading-below (true ∷ p) = omega (arith, pow-succ' 2 (length p), reading-below p)
 
--- Of a digit that weighs more than what follows it, the sum tells the digit and what follows.
-weight-tells : (a b : Bool) (w x y : ℕ) → x < w → y < w → bit a * w + x ≡ bit b * w + y → (a ≡ b) × (x ≡ y)
-unfolding bit
-weight-tells false false w x y h k e = (refl, omega arith)
-weight-tells false true w x y h k e = let z : ⊥ = omega arith in absurd z
-weight-tells true false w x y h k e = let z : ⊥ = omega arith in absurd z
-weight-tells true true w x y h k e = (refl, omega arith)
+-- The first digit weighs more than all that follow it, so readings of the same columns tell it.
+lead-told : (a b : Bool) (p q : Pt) → length p ≡ length q → reading (a ∷ p) ≡ reading (b ∷ q) → (a ≡ b) × (reading p ≡ reading q)
+unfolding reading bit
+lead-told false false p q l e = (refl, omega arith)
+lead-told false true p q l e = let z : ⊥ = omega (arith, ap (_^_ 2) l, reading-below p) in absurd z
+lead-told true false p q l e = let z : ⊥ = omega (arith, ap (_^_ 2) l, reading-below q) in absurd z
+lead-told true true p q l e = (refl, omega (arith, ap (_^_ 2) l))
 
 -- The reading tells points of the same columns apart.
 pub reading-tells : (p q : Pt) → length p ≡ length q → reading p ≡ reading q → p ≡ q
-unfolding reading
 reading-tells [] [] l e = refl
 reading-tells [] (b ∷ q) l e = let z : ⊥ = omega arith in absurd z
 reading-tells (a ∷ p) [] l e = let z : ⊥ = omega arith in absurd z
 reading-tells (a ∷ p) (b ∷ q) l e =
     let l′ : length p ≡ length q = omega arith in
-    let k : reading q < 2 ^ length p = subst⁻¹ (λ n. reading q < 2 ^ n) l′ (reading-below q) in
-    let e′ : bit a * 2 ^ length p + reading p ≡ bit b * 2 ^ length p + reading q =
-      subst⁻¹ (λ n. bit a * 2 ^ length p + reading p ≡ bit b * 2 ^ n + reading q) l′ e in
-    let t : (a ≡ b) × (reading p ≡ reading q) =
-      weight-tells a b (2 ^ length p) (reading p) (reading q) (reading-below p) k e′ in
+    let t = lead-told a b p q l′ e in
     ap₂ _∷_ (t .0) (reading-tells p q l′ (t .1))
 
 -- The order of readings is not the order of numbers: of 01 and 10 each has the smaller one.
