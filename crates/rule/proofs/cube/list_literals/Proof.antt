@@ -22,7 +22,7 @@ none-left xs i h = ap literalSum (drop-of-length-le xs h)
 
 abbrev Inv-loop : tie.InvT-loop
 Inv-loop list sum₀ i₀ sum i =
-    (i ≤ length list) × (sum ≤ 2 ^ 64 - 1) ×
+    (sum ≤ 2 ^ 64 - 1) ×
     (min (sum + literalSum (drop i list)) (2 ^ 64 - 1) ≡ min (literalSum list) (2 ^ 64 - 1))
 
 abbrev μ-loop : tie.MeasureT-loop
