@@ -8,3 +8,6 @@ pub mod Picks
 pub mod Irredundant
 pub mod Honest
 pub mod Marked
+pub mod Points
+pub mod Number
+pub mod Masks
