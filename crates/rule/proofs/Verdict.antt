@@ -1,18 +1,21 @@
 -- The verdict claims what it says, and nothing else can be claimed: each fault is looked for in the order of document 01, a
 -- search that ends with none is the condition that the later claims cite, and a claim tells how each search ended.
 use mathlib.Core.Path.{_≡_, refl, sym, ap, subst, _∙_}
+use mathlib.Core.Bool.{true}
 use mathlib.Core.List.{List, [], _∷_}
 use mathlib.Core.Logic.{_↔_}
 use mathlib.Core.Option.{Option, some, none}
 use Prim.Native.Nat.{ℕ, _+_, _<_}
 use lib.ListN.{length}
-use Rattle.rule.specs.Func.{Fn, less}
+use Rattle.rule.specs.Func.{Fn, less, within}
 use Rattle.rule.specs.Point.{Pt, pointNumber, smallest}
 use Rattle.rule.specs.Cube.{Cube, covered}
+use Rattle.rule.specs.Rule.{listOf}
 use Rattle.rule.specs.Verdict.{Verdict, accept, off, missing, literal, cube, first, found, fault, coversOff, offPoint, faultA, faultB, canGo, goes, faultC, spare, faultD, firstFault, verdict}
 use Rattle.rule.specs.Demand.{EveryOn, NoOff, EveryLiteralNeeded, Needed, Honest, Claims, OffFault, MissingFault, LiteralFault, CubeFault}
 use Rattle.rule.proofs.Search.{first-some, first-none, is-first, no-first}
 use Rattle.rule.proofs.Faults.{no-off, no-off-test, off-fault, off-first, off-point, every-on, every-on-none, missing-fault, missing-smallest, every-literal, every-literal-test, literal-fault, literal-first, literal-column, needed, needed-not-spare, cube-fault, cube-first}
+use Rattle.rule.proofs.Honest.{list-honest}
 
 module _ (m : ℕ) (L U : Fn m) (cs : List Cube) where
   -- What is known once the search for (a), and for (c), ended with none.
@@ -139,3 +142,7 @@ module _ (m : ℕ) (L U : Fn m) (cs : List Cube) where
 
   pub accept-exactly : (verdict m L U cs ≡ accept) ↔ Honest m L U cs
   accept-exactly = (accepted-is-honest, accepts-honest)
+
+-- So the rule's list is accepted, for L within U.
+pub accepts-list : (m : ℕ) (L : Fn m) (U : Fn m) → within m L U ≡ true → verdict m L U (listOf m L U) ≡ accept
+accepts-list m L U w = accepts-honest m L U (listOf m L U) (list-honest m L U w)
