@@ -7,6 +7,9 @@ pub mod Cover
 pub mod Picks
 pub mod Irredundant
 pub mod Honest
+pub mod Search
+pub mod Faults
+pub mod Verdict
 pub mod Marked
 pub mod Points
 pub mod Number
