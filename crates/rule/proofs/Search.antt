@@ -1,12 +1,11 @@
 -- The two searches of the verdict: the first number that passes a test, and the smallest point at which a function is 1.
--- Each finds what its name says, finds nothing only where there is nothing, and nothing else fits what it says. A point
--- is decided by its columns' count and its reading, since a reading is below 2 to the power of the columns.
+-- Each finds what its name says, finds nothing only where there is nothing, and nothing else fits what it says.
 use mathlib.Core.Path.{_≡_, refl, sym, ap, subst, _∙_}
 use mathlib.Core.Bool.{Bool, true, false, cond, true≢false, false≢true}
 use mathlib.Core.List.{[], _∷_}
 use mathlib.Core.Option.{Option, some, none}
 use Prim.Native.Nat.{ℕ, zero, suc, _+_, _^_, _<_, _≤_}
-use native.Mathlib.Nat.{pow-succ', le-antisymm}
+use native.Mathlib.Nat.{le-antisymm}
 use native.Mathlib.Omega.{arith}
 use lib.ListN.{length}
 use Rattle.rule.specs.Func.{Fn, half}
@@ -14,6 +13,7 @@ use Rattle.rule.specs.Point.{Pt, lead, rest, at, bit, reading, orElse, a
 use Rattle.rule.specs.Verdict.{next, first, found, isFound}
 use Rattle.rule.proofs.Bools.{clash}
 use Rattle.rule.proofs.Func.{each}
+use Rattle.rule.proofs.Points.{reading-below, reading-tells}
 
 -- What a search found, and that it found nothing, by the test whether it found.
 pub is-found : {A : Type 0} (o : Option A) (d : A) → isFound o ≡ true → o ≡ some (found o d)
@@ -94,28 +94,9 @@ reading-1 : (p : Pt) → reading (true ∷ p) ≡ 2 ^ length p + reading p
 unfolding reading bit
 reading-1 p = omega arith
 
-pub reading-small : (p : Pt) → reading p < 2 ^ length p
-unfolding reading
-reading-small [] = omega arith
-reading-small (false ∷ p) = omega (arith, reading-0 p, reading-small p, pow-succ' 2 (length p))
-reading-small (true ∷ p) = omega (arith, reading-1 p, reading-small p, pow-succ' 2 (length p))
-
 -- Of two points of as many columns, the one that begins with 0 is the smaller.
 zero-first : (p : Pt) (q : Pt) → length p ≡ length q → reading (false ∷ p) < reading (true ∷ q)
-zero-first p q e = omega (arith, reading-0 p, reading-1 q, reading-small p, ap (λ n. 2 ^ n) e)
-
--- A point is decided by its reading.
-pub same-reading : (p : Pt) (q : Pt) → reading p ≡ reading q → length p ≡ length q → p ≡ q
-same-reading [] [] r e = refl
-same-reading [] (b ∷ q) r e = let z : ⊥ = omega arith in absurd z
-same-reading (a ∷ p) [] r e = let z : ⊥ = omega arith in absurd z
-same-reading (false ∷ p) (false ∷ q) r e =
-    ap (λ s. false ∷ s) (same-reading p q (omega (arith, reading-0 p, reading-0 q)) (omega arith))
-same-reading (false ∷ p) (true ∷ q) r e = let z : ⊥ = omega (arith, zero-first p q (omega arith)) in absurd z
-same-reading (true ∷ p) (false ∷ q) r e = let z : ⊥ = omega (arith, zero-first q p (omega arith)) in absurd z
-same-reading (true ∷ p) (true ∷ q) r e =
-    let l : length p ≡ length q = omega arith in
-    ap (λ s. true ∷ s) (same-reading p q (omega (arith, reading-1 p, reading-1 q, ap (λ n. 2 ^ n) l)) l)
+zero-first p q e = omega (arith, reading-0 p, reading-1 q, reading-below p, ap (λ n. 2 ^ n) e)
 
 -- The smallest point at which a function is 1: it is 1 there, and at no smaller point.
 pub record LeastAt (m : ℕ) (f : Fn m) (p : Pt) : Type 0 where
@@ -172,7 +153,7 @@ smallest-none m f e = subst (LeastOf m f) e (smallest-is m f)
 -- Two smallest points are one: their readings are equal.
 same-least : {m : ℕ} {f : Fn m} {p q : Pt} → LeastAt m f p → LeastAt m f q → p ≡ q
 same-least {m} {f} {p} {q} a b =
-    same-reading p q (le-antisymm (a .least q (b .whole) (b .value)) (b .least p (a .whole) (a .value))) (a .whole ∙ sym (b .whole))
+    reading-tells p q (a .whole ∙ sym (b .whole)) (le-antisymm (a .least q (b .whole) (b .value)) (b .least p (a .whole) (a .value)))
 
 pub is-smallest : {m : ℕ} {f : Fn m} {p : Pt} → LeastAt m f p → smallest m f ≡ some p
 unfolding LeastOf
