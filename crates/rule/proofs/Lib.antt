@@ -10,6 +10,10 @@ pub mod Cover
 pub mod Picks
 pub mod Irredundant
 pub mod Honest
+pub mod Search
+pub mod Faults
+pub mod Verdict
+pub mod Delivered
 pub mod Trees
 pub mod Sets
 pub mod Parts
@@ -17,8 +21,4 @@ pub mod Growth
 pub mod Places
 pub mod Nodes
 pub mod Fixed
-pub mod Search
-pub mod Faults
-pub mod Verdict
-pub mod Delivered
 pub mod Marked
