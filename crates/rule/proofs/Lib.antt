@@ -15,3 +15,4 @@ pub mod Faults
 pub mod Verdict
 pub mod Delivered
 pub mod Marked
+pub mod Table
