@@ -16,3 +16,5 @@ pub mod Verdict
 pub mod Delivered
 pub mod Marked
 pub mod Table
+pub mod AtPoint
+pub mod Occurs

@@ -1,6 +1,6 @@
 -- The table's rule. That a rule's nine entries are those of the formulas is one equation of lists, which is computed; here:
 -- such a list has, at the place of two values, what the formulas give for them.
-use mathlib.Core.Path.{_≡_, refl}
+use mathlib.Core.Path.{_≡_, refl, sym, ap, _∙_}
 use mathlib.Core.List.{List}
 use Prim.Native.Nat.{ℕ, _+_, _*_, _<_}
 use native.Mathlib.Omega.{arith}
@@ -38,3 +38,8 @@ pub entry-at : (r : Rule) (a : Value) (b : Value) (d : Entry) {table : List Entr
     table ≡ entriesOf r → i ≡ placeOf a → j ≡ placeOf b → getD table (i * 3 + j) d ≡ entryOf r a b
 unfolding entriesOf
 entry-at r a b d test ei ej = rw (test, ei, ej) (at-place (entryOf r) d a b)
+
+-- Two lists in the table's order are equal only if all that stands in them is.
+pub same-listed : {A : Type 0} (f : Value → Value → A) (g : Value → Value → A) → listed f ≡ listed g → (a : Value) (b : Value) → f a b ≡ g a b
+same-listed f g e a b =
+    sym (at-place f (f a b) a b) ∙ ap (λ t. getD t (placeOf a * 3 + placeOf b) (f a b)) e ∙ at-place g (f a b) a b

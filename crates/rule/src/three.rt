@@ -1,7 +1,6 @@
 // The list rule at a point: three rules of nine entries each, over the values 0, 1 and star.
 // The look-up answers what document 01's formulas give, wherever an entry can arise from the steps.
 ghost use mathlib.Core.Path.{_≡_};
-ghost use Prim.Native.Nat.{_<_};
 ghost use Rattle.rule.specs.Three.{entriesOf, entryOf, placeOf};
 
 // A value at a point: off, on, or don't care.
