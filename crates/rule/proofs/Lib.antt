@@ -22,3 +22,6 @@ pub mod Places
 pub mod Nodes
 pub mod Fixed
 pub mod Marked
+pub mod Table
+pub mod AtPoint
+pub mod Occurs

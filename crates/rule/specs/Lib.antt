@@ -10,3 +10,4 @@ pub mod Demand
 pub mod Rows
 pub mod Marked
 pub mod Three
+pub mod Occurs

@@ -1,5 +1,6 @@
 -- The three-valued rules: a step of the list rule at a point, over the values 0, 1 and star.
 use mathlib.Core.Bool.{Bool, true, false, cond, not, _&&_, _||_}
+use mathlib.Core.List.{List, [], _∷_}
 use Prim.Native.Nat.{ℕ}
 use Rattle.rule.specs.Func.{Fn, butNot}
 use Rattle.rule.specs.Point.{Pt, at}
@@ -69,3 +70,12 @@ unmet Join = Gives Zero
 -- The entry of a rule for two values.
 unfoldable pub entryOf : Rule → Value → Value → Entry
 entryOf r a b = cond (arises r a b) (Gives (valueOf (lowerSum r a b) (upperSum r a b))) (unmet r)
+
+-- A rule's entries in the table's order: for 0 0, 0 1, 0 *, 1 0, 1 1, 1 *, * 0, * 1, * *.
+unfoldable pub listed : {A : Type 0} → (Value → Value → A) → List A
+listed f =
+    f Zero Zero ∷ f Zero One ∷ f Zero Star ∷ f One Zero ∷ f One One ∷ f One Star ∷ f Star Zero ∷ f Star One ∷
+    f Star Star ∷ []
+
+unfoldable pub entriesOf : Rule → List Entry
+entriesOf r = listed (entryOf r)

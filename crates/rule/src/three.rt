@@ -1,8 +1,7 @@
 // The list rule at a point: three rules of nine entries each, over the values 0, 1 and star.
 // The look-up answers what document 01's formulas give, wherever an entry can arise from the steps.
 ghost use mathlib.Core.Path.{_≡_};
-ghost use Prim.Native.Nat.{_<_};
-ghost use Rattle.rule.specs.Three.{entryOf, placeOf};
+ghost use Rattle.rule.specs.Three.{entriesOf, entryOf, placeOf};
 
 // A value at a point: off, on, or don't care.
 pub enum Value {
@@ -24,42 +23,53 @@ pub enum Entry {
     Never,
 }
 
-// Each rule's entries for 0 0, 0 1, 0 *, 1 0, 1 1, 1 *, * 0, * 1, * *.
+// The table: for each rule, what it gives for two values.
 const KEEP: [Entry; 9] = [
-    Entry::Gives(Value::Zero),
-    Entry::Gives(Value::Zero),
-    Entry::Gives(Value::Zero),
-    Entry::Gives(Value::One),
-    Entry::Gives(Value::Star),
-    Entry::Gives(Value::Star),
-    Entry::Gives(Value::Star),
-    Entry::Gives(Value::Star),
-    Entry::Gives(Value::Star),
+    Entry::Gives(Value::Zero), // half 0, other half 0
+    Entry::Gives(Value::Zero), // half 0, other half 1
+    Entry::Gives(Value::Zero), // half 0, other half *
+    Entry::Gives(Value::One), // half 1, other half 0
+    Entry::Gives(Value::Star), // half 1, other half 1
+    Entry::Gives(Value::Star), // half 1, other half *
+    Entry::Gives(Value::Star), // half *, other half 0
+    Entry::Gives(Value::Star), // half *, other half 1
+    Entry::Gives(Value::Star), // half *, other half *
 ];
 
 const REMOVE: [Entry; 9] = [
-    Entry::Gives(Value::Zero),
-    Entry::Never,
-    Entry::Never,
-    Entry::Gives(Value::One),
-    Entry::Gives(Value::Star),
-    Entry::Never,
-    Entry::Gives(Value::Star),
-    Entry::Gives(Value::Star),
-    Entry::Never,
+    Entry::Gives(Value::Zero), // half 0, cover 0
+    Entry::Never, // half 0, cover 1
+    Entry::Never, // half 0, cover *
+    Entry::Gives(Value::One), // half 1, cover 0
+    Entry::Gives(Value::Star), // half 1, cover 1
+    Entry::Never, // half 1, cover *
+    Entry::Gives(Value::Star), // half *, cover 0
+    Entry::Gives(Value::Star), // half *, cover 1
+    Entry::Never, // half *, cover *
 ];
 
 const JOIN: [Entry; 9] = [
-    Entry::Gives(Value::Zero),
-    Entry::Gives(Value::Zero),
-    Entry::Gives(Value::Zero),
-    Entry::Gives(Value::Zero),
-    Entry::Gives(Value::One),
-    Entry::Gives(Value::One),
-    Entry::Gives(Value::Zero),
-    Entry::Gives(Value::One),
-    Entry::Gives(Value::Star),
+    Entry::Gives(Value::Zero), // rest 0 is 0, rest 1 is 0
+    Entry::Gives(Value::Zero), // rest 0 is 0, rest 1 is 1
+    Entry::Gives(Value::Zero), // rest 0 is 0, rest 1 is *
+    Entry::Gives(Value::Zero), // rest 0 is 1, rest 1 is 0
+    Entry::Gives(Value::One), // rest 0 is 1, rest 1 is 1
+    Entry::Gives(Value::One), // rest 0 is 1, rest 1 is *
+    Entry::Gives(Value::Zero), // rest 0 is *, rest 1 is 0
+    Entry::Gives(Value::One), // rest 0 is *, rest 1 is 1
+    Entry::Gives(Value::Star), // rest 0 is *, rest 1 is *
 ];
+
+// The entries of a rule.
+fn entries(rule: Rule) -> [Entry; 9]
+    ensures { λ r. ⌜ r ≡ entriesOf rule ⌝ }
+{
+    match rule {
+        Rule::Keep => KEEP,
+        Rule::Remove => REMOVE,
+        Rule::Join => JOIN,
+    }
+}
 
 // The place of a value in the order 0, 1, star.
 fn place(v: Value) -> usize
@@ -76,10 +86,7 @@ fn place(v: Value) -> usize
 pub fn look_up(rule: Rule, first: Value, second: Value) -> Entry
     ensures { λ r. ⌜ r ≡ entryOf rule first second ⌝ }
 {
+    let entries = entries(rule);
     let at = place(first) * 3 + place(second);
-    match rule {
-        Rule::Keep => KEEP[at],
-        Rule::Remove => REMOVE[at],
-        Rule::Join => JOIN[at],
-    }
+    entries[at]
 }
