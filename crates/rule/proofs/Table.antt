@@ -1,14 +1,16 @@
--- The table's rule. That a rule's nine entries are those of the formulas is one equation of lists, which is computed; here:
--- such a list has, at the place of two values, what the formulas give for them.
+-- The table's rule: that the 27 printed entries are those of the formulas is one equation, which is computed; and a list
+-- of nine entries has, at the place of two values, what the formulas give for them.
 use mathlib.Core.Path.{_≡_, refl, sym, ap, _∙_}
-use mathlib.Core.List.{List}
+use mathlib.Core.List.{List, [], _∷_, map}
 use Prim.Native.Nat.{ℕ, _+_, _*_, _<_}
 use native.Mathlib.Omega.{arith}
 use lib.ListN.{getD}
-use Rattle.rule.specs.Three.{placeOf, listed, entryOf, entriesOf}
+use Rattle.rule.specs.Func.{butNot}
+use Rattle.rule.specs.Three.{placeOf, lower, upper, valueOf, lowerSum, upperSum, isStar, arises, unmet, listed, entryOf, entriesOf, printed}
 use Rattle.rule.specs.declared.three.Value.{Value}
 use Rattle.rule.specs.declared.three.Value.the-variants.{Zero, One, Star}
 use Rattle.rule.specs.declared.three.Rule.{Rule}
+use Rattle.rule.specs.declared.three.Rule.the-variants.{Keep, Remove, Join}
 use Rattle.rule.specs.declared.three.Entry.{Entry}
 
 -- What holds for each value holds for all.
@@ -33,11 +35,21 @@ at-place f d =
     there : Value → Value → Type 0
     there a b = getD (listed f) (placeOf a * 3 + placeOf b) d ≡ f a b
 
--- The entry at the place of two values is what the rule gives for them.
+-- The one test of the table's 27 entries: what the formulas give is what document 01 prints.
+table-test : map entriesOf (Keep ∷ Remove ∷ Join ∷ []) ≡ map printed (Keep ∷ Remove ∷ Join ∷ [])
+unfolding butNot lower upper valueOf lowerSum upperSum isStar arises unmet entryOf listed entriesOf printed
+table-test = refl
+
+printed-right : (r : Rule) → printed r ≡ entriesOf r
+printed-right Keep = sym (ap (λ t. getD t 0 []) table-test)
+printed-right Remove = sym (ap (λ t. getD t 1 []) table-test)
+printed-right Join = sym (ap (λ t. getD t 2 []) table-test)
+
+-- The printed entry at the place of two values is what the rule gives for them.
 pub entry-at : (r : Rule) (a : Value) (b : Value) (d : Entry) {table : List Entry} {i : ℕ} {j : ℕ} →
-    table ≡ entriesOf r → i ≡ placeOf a → j ≡ placeOf b → getD table (i * 3 + j) d ≡ entryOf r a b
+    table ≡ printed r → i ≡ placeOf a → j ≡ placeOf b → getD table (i * 3 + j) d ≡ entryOf r a b
 unfolding entriesOf
-entry-at r a b d test ei ej = rw (test, ei, ej) (at-place (entryOf r) d a b)
+entry-at r a b d is ei ej = rw (is, printed-right r, ei, ej) (at-place (entryOf r) d a b)
 
 -- Two lists in the table's order are equal only if all that stands in them is.
 pub same-listed : {A : Type 0} (f : Value → Value → A) (g : Value → Value → A) → listed f ≡ listed g → (a : Value) (b : Value) → f a b ≡ g a b

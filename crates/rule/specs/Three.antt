@@ -79,3 +79,11 @@ listed f =
 
 unfoldable pub entriesOf : Rule → List Entry
 entriesOf r = listed (entryOf r)
+
+-- The table as document 01 prints it.
+unfoldable pub printed : Rule → List Entry
+printed Keep =
+    Gives Zero ∷ Gives Zero ∷ Gives Zero ∷ Gives One ∷ Gives Star ∷ Gives Star ∷ Gives Star ∷ Gives Star ∷ Gives Star ∷ []
+printed Remove = Gives Zero ∷ Never ∷ Never ∷ Gives One ∷ Gives Star ∷ Never ∷ Gives Star ∷ Gives Star ∷ Never ∷ []
+printed Join =
+    Gives Zero ∷ Gives Zero ∷ Gives Zero ∷ Gives Zero ∷ Gives One ∷ Gives One ∷ Gives Zero ∷ Gives One ∷ Gives Star ∷ []

@@ -1,7 +1,7 @@
 // The list rule at a point: three rules of nine entries each, over the values 0, 1 and star.
 // The look-up answers what document 01's formulas give, wherever an entry can arise from the steps.
 ghost use mathlib.Core.Path.{_≡_};
-ghost use Rattle.rule.specs.Three.{entriesOf, entryOf, placeOf};
+ghost use Rattle.rule.specs.Three.{printed, entryOf, placeOf};
 
 // A value at a point: off, on, or don't care.
 pub enum Value {
@@ -62,7 +62,7 @@ const JOIN: [Entry; 9] = [
 
 // The entries of a rule.
 fn entries(rule: Rule) -> [Entry; 9]
-    ensures { λ r. ⌜ r ≡ entriesOf rule ⌝ }
+    ensures { λ r. ⌜ r ≡ printed rule ⌝ }
 {
     match rule {
         Rule::Keep => KEEP,
