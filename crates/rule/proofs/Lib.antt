@@ -1,12 +1,14 @@
 -- The theorems about the meaning, and the laws they rest on, one concept to a file.
 pub mod Bools
 pub mod Func
+pub mod Operations
 pub mod Points
 pub mod Cubes
 pub mod Number
 pub mod Masks
 pub mod Steps
 pub mod Cover
+pub mod CoverSteps
 pub mod Picks
 pub mod Irredundant
 pub mod Honest
@@ -21,6 +23,9 @@ pub mod Growth
 pub mod Places
 pub mod Nodes
 pub mod Fixed
+pub mod Leftmost
+pub mod Named
+pub mod LeftmostNeed
 pub mod Marked
 pub mod Table
 pub mod AtPoint
