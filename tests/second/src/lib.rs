@@ -1,0 +1,10 @@
+//! The second program: document 01 written down plainly, to hold other programs against.
+//! Functions are truth tables and sets of nodes are sets of truth tables, so nothing here
+//! rests on the ways of a node table. Rather simple than fast.
+
+pub mod cube;
+pub mod function;
+pub mod nodes;
+pub mod point;
+pub mod refusal;
+pub mod table;
