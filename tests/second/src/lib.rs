@@ -4,7 +4,9 @@
 
 pub mod cube;
 pub mod function;
+pub mod list;
 pub mod nodes;
 pub mod point;
 pub mod refusal;
 pub mod table;
+pub mod verdict;
