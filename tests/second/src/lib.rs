@@ -2,11 +2,16 @@
 //! Functions are truth tables and sets of nodes are sets of truth tables, so nothing here
 //! rests on the ways of a node table. Rather simple than fast.
 
+pub mod candidate;
 pub mod cube;
 pub mod function;
+pub mod line;
 pub mod list;
 pub mod nodes;
 pub mod point;
+pub mod reading;
 pub mod refusal;
 pub mod table;
+pub mod text;
 pub mod verdict;
+pub mod writing;
