@@ -3,8 +3,10 @@
 //! rests on the ways of a node table. Rather simple than fast.
 
 pub mod candidate;
+pub mod checker;
 pub mod cube;
 pub mod function;
+pub mod generator;
 pub mod line;
 pub mod list;
 pub mod nodes;
