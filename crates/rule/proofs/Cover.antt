@@ -62,11 +62,11 @@ module _ (m : ℕ) (list : Fn m → Fn m → List Cube) (ih : (L : Fn m) (U : Fn
 
   pub within-A : within m (P0 m list L U) (U .0) ≡ true
   unfolding P0
-  within-A = less-within m (L .0) (U .0) (U .1) within-0
+  within-A = less-within m (L .0) (U .0) _ within-0
 
   pub within-B : within m (P1 m list L U) (U .1) ≡ true
   unfolding P1
-  within-B = less-within m (L .1) (U .1) (U .0) within-1
+  within-B = less-within m (L .1) (U .1) _ within-1
 
   pub covers-A : Covers m (P0 m list L U) (U .0) (listA m list L U)
   unfolding listA
