@@ -10,4 +10,5 @@ pub mod Demand
 pub mod Rows
 pub mod Marked
 pub mod Three
+pub mod Refusal
 pub mod Occurs
