@@ -2,12 +2,13 @@
 -- that must be 0 are not, and two halves below the last column share no bit. Each goes by the lowest bits and the halves.
 use mathlib.Core.Path.{_≡_, refl, sym, ap, ap₂, _∙_}
 use mathlib.Core.Bool.{Bool, true, false, not, _&&_, and-assoc, and-false}
-use Prim.Native.Nat.{ℕ, zero, suc, _/_, _%_, _^_, _<_, min}
+use Prim.Native.Nat.{ℕ, zero, suc, _*_, _/_, _%_, _^_, _<_, _≤_, min}
 use native.Mathlib.Nat.{pow-succ'}
 use native.Mathlib.Omega.{arith}
 use lib.Arith.{lt-one}
 use lib.Bits.{bitAnd, and-step}
 use lib.Dec.{eqb, ltb}
+use lib.Pow.{pow-mono}
 use borrow.Author.Tests.{eqb-true, eqb-false, eq-eqb, ne-eqb, ltb-true, lt-ltb}
 use Rattle.rule.specs.Point.{bit, odd}
 use Rattle.rule.specs.Number.{apart, wellFormed, agree, numberCovers}
@@ -124,3 +125,7 @@ second-decides a b e h = sym (e ∙ ap (λ t. t && b) h)
 
 pub first-decides : (a b : Bool) {r : Bool} → r ≡ (a && b) → a ≡ false → a ≡ r
 first-decides a b e h = h ∙ sym (e ∙ ap (λ t. t && b) h)
+
+-- One shifted by at most 16 places, as the code has it, is a power of two.
+pub shifted-one : (m : ℕ) → m ≤ 16 → 1 * 2 ^ m % 4294967296 ≡ 2 ^ m
+shifted-one m h = let k : 2 ^ m ≤ 2 ^ 16 = pow-mono h in omega arith

@@ -10,7 +10,7 @@ use lib.Pow.{pow-mono}
 use borrow.Author.Needs.{needs}
 use borrow.Author.Tests.{eq-eqb, ne-eqb, lt-ltb, le-ltb}
 use Rattle.rule.specs.Number.{wellFormed}
-use Rattle.rule.proofs.Masks.{wellFormed-masks, second-decides, first-decides}
+use Rattle.rule.proofs.Masks.{wellFormed-masks, second-decides, first-decides, shifted-one}
 use Rattle.rule.proofs.cube.well_formed.Statement.{statement}
 use Rattle.rule.proofs.cube.well_formed.Tie as tie
 
@@ -44,10 +44,7 @@ module _ (m x : ℕ) where
     beyond = 1 * 2 ^ m % 4294967296
 
     beyond-is : beyond ≡ 2 ^ m
-    beyond-is =
-        let h : m ≤ 16 = omega arith in
-        let k : 2 ^ m ≤ 2 ^ 16 = pow-mono h in
-        omega arith
+    beyond-is = shifted-one m (omega arith)
 
     zeros-decide : ones < beyond → ltb zeros beyond ≡ wellFormed m x
     zeros-decide h =
