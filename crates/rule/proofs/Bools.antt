@@ -103,6 +103,16 @@ imply-table true true = refl
 imply-table true false = refl
 imply-table false b = refl
 
+-- Not a or not b is the same as: a and b is 0.
+pub apart-table : (a b : Bool) → (not a || not b) ≡ Bool·beq (a && b) false
+apart-table true true = refl
+apart-table true false = refl
+apart-table false b = refl
+
+pub not-twice : (a : Bool) → not (not a) ≡ a
+not-twice true = refl
+not-twice false = refl
+
 pub or-assoc : (a b c : Bool) → (a || (b || c)) ≡ ((a || b) || c)
 or-assoc true b c = refl
 or-assoc false b c = refl

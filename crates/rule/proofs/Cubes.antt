@@ -7,7 +7,8 @@ use Rattle.rule.specs.Func.{Fn, half, constant, either}
 use Rattle.rule.specs.Point.{Pt, lead, rest, at}
 use Rattle.rule.specs.Cube.{Sign, sign0, sign1, dash, Cube, leadSign, restSigns, permits, covers, coversAny, under, cubeFn, covered, dashes}
 use Rattle.rule.specs.Rule.{put}
-use Rattle.rule.proofs.Func.{at-constant, at-either}
+use Rattle.rule.proofs.Func.{at-constant, at-either, ext}
+use Rattle.rule.proofs.Operations.{either-none}
 use Rattle.rule.proofs.Bools.{or-assoc, and-over-or, and-false-r}
 
 -- The function under a sign, at a first digit: the one where the sign permits the digit, else the other.
@@ -43,6 +44,16 @@ unfolding coversAny
 any-append m [] ys p = refl
 any-append m (x ∷ xs) ys p =
     ap (λ b. covers m x p || b) (any-append m xs ys p) ∙ or-assoc (covers m x p) (coversAny m xs p) (coversAny m ys p)
+
+pub covered-append : (m : ℕ) (xs : List Cube) (ys : List Cube) → covered m (xs ++ ys) ≡ either m (covered m xs) (covered m ys)
+covered-append m xs ys =
+    ext m (covered m (xs ++ ys)) (either m (covered m xs) (covered m ys))
+    (λ p w. rw (at-covered m (xs ++ ys), at-either, at-covered m xs, at-covered m ys) (any-append m xs ys p))
+
+-- A list of one cube covers what the cube does.
+pub covered-one : (m : ℕ) (c : Cube) → covered m (c ∷ []) ≡ cubeFn m c
+unfolding covered
+covered-one m c = either-none m (cubeFn m c)
 
 -- With a sign put before every cube, a list covers the points whose first digit the sign permits and whose rest it covered.
 pub any-put : (m : ℕ) (s : Sign) (cs : List Cube) (p : Pt) → coversAny (suc m) (put s cs) p ≡ (permits s (lead p) && coversAny m cs (rest p))

@@ -11,13 +11,13 @@ use Rattle.rule.specs.Func.{Fn, half, always, both, within}
 use Rattle.rule.specs.Point.{Pt, lead, rest, at}
 use Rattle.rule.specs.Cube.{Sign, sign0, sign1, dash, Cube, leadSign, restSigns, permits, covers, coversAny, covered, dashes, isLiteral, hasLiteral, withoutLiteral}
 use Rattle.rule.specs.Rule.{P0, P1, G0, G1, R0, R1, R0orR1, U0andU1, listA, listB, listC, put, result, listOf}
-use Rattle.rule.proofs.Func.{at-both, at-either, at-digit, less-in, less-out, not-always, Where}
+use Rattle.rule.proofs.Func.{at-both, at-digit, less-in, less-out, not-always, Where}
 use Rattle.rule.proofs.Cubes.{at-covered}
-use Rattle.rule.proofs.Steps.{by-step, list-step3, any-joined}
+use Rattle.rule.proofs.Steps.{by-step, list-step3, any-joined, P0-off, P1-off, C-for-left}
 use Rattle.rule.proofs.Cover.{Covers, list-covers, no-step-left, covers-A, covers-B, covers-C, C-in-0, C-in-1}
 use Rattle.rule.proofs.Cover.{within-A, within-B, within-C}
 use Rattle.rule.proofs.Picks.{Picks, picks-append, picks-put, pick-hits, no-pick, only-pick, only-left, FirstPick, SecondPick, PutPick}
-use Rattle.rule.proofs.Bools.{and-false, and-intro, or-true, or-false, clash, must-be-false}
+use Rattle.rule.proofs.Bools.{and-false, and-intro, or-false, clash, must-be-false}
 
 -- An on point that a list leaves bare.
 pub record Bare (m : ℕ) (L : Fn m) (cs : List Cube) : Type 0 where
@@ -87,19 +87,11 @@ module _ (m : ℕ) (list : Fn m → Fn m → List Cube) (ihC : (L : Fn m) (U : F
   irr-C = ih (R0orR1 m list L U) (U0andU1 m list L U) (within-C m list ihC L U w)
 
   -- A point of P0 lies outside U1, so list C does not cover it; the same for P1 and U0.
-  P0-off : (q : Pt) → at m (P0 m list L U) q ≡ true → at m (U .1) q ≡ false
-  unfolding P0
-  P0-off q t = less-out m (L .0) (U .1) q t
-
-  P1-off : (q : Pt) → at m (P1 m list L U) q ≡ true → at m (U .0) q ≡ false
-  unfolding P1
-  P1-off q t = less-out m (L .1) (U .0) q t
-
   C-misses-P0 : (q : Pt) → at m (P0 m list L U) q ≡ true → coversAny m (listC m list L U) q ≡ false
-  C-misses-P0 q t = must-be-false (coversAny m (listC m list L U) q) (λ e. clash (C-in-1 m list ihC L U w q e) (P0-off q t))
+  C-misses-P0 q t = must-be-false (coversAny m (listC m list L U) q) (λ e. clash (C-in-1 m list ihC L U w q e) (P0-off m list L U q t))
 
   C-misses-P1 : (q : Pt) → at m (P1 m list L U) q ≡ true → coversAny m (listC m list L U) q ≡ false
-  C-misses-P1 q t = must-be-false (coversAny m (listC m list L U) q) (λ e. clash (C-in-0 m list ihC L U w q e) (P1-off q t))
+  C-misses-P1 q t = must-be-false (coversAny m (listC m list L U) q) (λ e. clash (C-in-0 m list ihC L U w q e) (P1-off m list L U q t))
 
   row-A : (others : List Cube) → Bare m (P0 m list L U) others →
       Bare (suc m) L (put sign0 others ++ put sign1 (listB m list L U) ++ put dash (listC m list L U))
@@ -113,8 +105,8 @@ module _ (m : ℕ) (list : Fn m → Fn m → List Cube) (ihC : (L : Fn m) (U : F
 
   row-C : (others : List Cube) → Bare m (R0orR1 m list L U) others →
       Bare (suc m) L (put sign0 (listA m list L U) ++ put sign1 (listB m list L U) ++ put dash others)
-  unfolding half R0orR1 R0 R1 G0 G1
-  row-C others b = ⊎-elim left-0 left-1 (or-true (at m (R0 m list L U) (b .point)) (at m (R1 m list L U) (b .point)) (sym (at-either m (R0 m list L U) (R1 m list L U) (b .point)) ∙ b .on))
+  unfolding half R0 R1 G0 G1
+  row-C others b = ⊎-elim left-0 left-1 (C-for-left m list L U (b .point) (b .on))
     where
       left-0 : at m (R0 m list L U) (b .point) ≡ true → Bare (suc m) L (put sign0 (listA m list L U) ++ put sign1 (listB m list L U) ++ put dash others)
       left-0 t = lift-bare m L false (b .point) (listA m list L U) (listB m list L U) others (b .whole) (less-in m (L .0) (G0 m list L U) (b .point) t) (sym (at-covered m (listA m list L U) (b .point)) ∙ less-out m (L .0) (G0 m list L U) (b .point) t) (b .bare)
@@ -127,14 +119,14 @@ module _ (m : ℕ) (list : Fn m → Fn m → List Cube) (ihC : (L : Fn m) (U : F
   unfolding half permits
   first-A c left k =
       let b = irr-A .row c left k in
-      lift-spoils m U dash true c (b .point) refl (b .whole) (P0-off (b .point) (b .on))
+      lift-spoils m U dash true c (b .point) refl (b .whole) (P0-off m list L U (b .point) (b .on))
       (pick-hits m (b .point) k (covers-A m list ihC L U w .on (b .point) (b .on)) (b .bare))
 
   first-B : (c : Cube) (left : List Cube) → Picks (listB m list L U) c left → Spoils (suc m) U (dash ∷ c)
   unfolding half permits
   first-B c left k =
       let b = irr-B .row c left k in
-      lift-spoils m U dash false c (b .point) refl (b .whole) (P1-off (b .point) (b .on))
+      lift-spoils m U dash false c (b .point) refl (b .whole) (P1-off m list L U (b .point) (b .on))
       (pick-hits m (b .point) k (covers-B m list ihC L U w .on (b .point) (b .on)) (b .bare))
 
   later-A : (c : Cube) (left : List Cube) → Picks (listA m list L U) c left → (k : ℕ) → hasLiteral c k ≡ true → Spoils (suc m) U (sign0 ∷ withoutLiteral c k)

@@ -5,6 +5,7 @@ pub mod Operations
 pub mod Points
 pub mod Cubes
 pub mod Number
+pub mod Rows
 pub mod Masks
 pub mod Steps
 pub mod Cover

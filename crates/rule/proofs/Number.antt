@@ -13,7 +13,7 @@ use lib.Dec.{eqb, lit<}
 use lib.Pow.{pow-mono}
 use borrow.Author.Tests.{eqb-true}
 use Rattle.rule.specs.Point.{bit, odd, digits, lead, rest}
-use Rattle.rule.specs.Cube.{Sign, sign0, sign1, dash, Cube, leadSign, restSigns, permits, covers, isLiteral, countIf, literals}
+use Rattle.rule.specs.Cube.{Sign, sign0, sign1, dash, Cube, leadSign, restSigns, permits, covers, isLiteral, countIf, literals, dashes}
 use Rattle.rule.specs.Number.{isOne, isZero, onesOf, zerosOf, cubeNumber, signOf, signsFrom, signs, apart, wellFormed, agree, numberCovers, literalSum}
 use Rattle.rule.proofs.Points.{odd-put, half-put, put-odd, put-below}
 
@@ -191,3 +191,22 @@ literalSum-literals m [] w = refl
 literalSum-literals m (x ∷ xs) w =
     ap₂ _+_ (ones-literals m x (w 0 (suc-le-suc zero-le)))
     (literalSum-literals m xs (λ i h. w (suc i) (suc-le-suc h)))
+
+-- Number 0 is the cube without literals.
+none-of-dashes : (m : ℕ) → (onesOf (dashes m) ≡ 0) × (zerosOf (dashes m) ≡ 0)
+unfolding onesOf zerosOf dashes isOne isZero bit
+none-of-dashes zero = (refl, refl)
+none-of-dashes (suc m) = let h = none-of-dashes m in (omega arith, omega arith)
+
+pub number-dashes : (m : ℕ) → cubeNumber (dashes m) ≡ 0
+unfolding cubeNumber
+number-dashes m = let h = none-of-dashes m in omega arith
+
+signsFrom-none : (m : ℕ) → signsFrom m 0 0 ≡ dashes m
+unfolding signsFrom dashes signOf odd
+signsFrom-none zero = refl
+signsFrom-none (suc m) = ap (λ c. dash ∷ c) (signsFrom-none m)
+
+pub signs-none : (m : ℕ) → signs m 0 ≡ dashes m
+unfolding signs
+signs-none m = signsFrom-none m

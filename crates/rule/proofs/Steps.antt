@@ -1,15 +1,17 @@
--- The three steps of the list rule, each as an equation under its test, and what a step's result covers.
-use mathlib.Core.Path.{_≡_, refl, ap, _∙_, subst⁻¹}
+-- The three steps of the list rule, each as an equation under its test, what a step's result covers, and what lists A, B and
+-- C are for.
+use mathlib.Core.Path.{_≡_, refl, sym, ap, _∙_, subst⁻¹}
 use mathlib.Core.Logic.{_⊎_, inl, inr}
 use mathlib.Core.Bool.{Bool, true, false, not, _&&_, _||_}
 use mathlib.Core.List.{List, [], _∷_, _++_}
 use Prim.Native.Nat.{ℕ, zero, suc}
 use Rattle.rule.specs.Func.{Fn, half, always}
-use Rattle.rule.specs.Point.{Pt, lead, rest}
+use Rattle.rule.specs.Point.{Pt, lead, rest, at}
 use Rattle.rule.specs.Cube.{Sign, sign0, sign1, dash, Cube, permits, coversAny, dashes}
-use Rattle.rule.specs.Rule.{steps, put, listA, listB, listC, result, listOf}
+use Rattle.rule.specs.Rule.{steps, put, P0, P1, R0, R1, R0orR1, listA, listB, listC, result, listOf}
+use Rattle.rule.proofs.Func.{at-either, less-out}
 use Rattle.rule.proofs.Cubes.{any-append, any-put}
-use Rattle.rule.proofs.Bools.{or-none, which}
+use Rattle.rule.proofs.Bools.{or-none, or-true, which}
 
 -- Step 1: L is 0.
 pub step1 : {A : Type 0} (l : Bool) (u : Bool) (two : List A) (three : Unit {0} → List A) → l ≡ true → steps l u two three ≡ []
@@ -82,3 +84,19 @@ pub any-result : (m : ℕ) (list : Fn m → Fn m → List Cube) (L : Fn (suc m))
     (coversAny m (half (lead p) (listA m list L U, listB m list L U)) (rest p) || coversAny m (listC m list L U) (rest p))
 unfolding result
 any-result m list L U p = any-joined m (listA m list L U) (listB m list L U) (listC m list L U) p
+
+-- What lists A and B are for lies outside the other half's upper root; what list C is for, A or B left.
+module _ (m : ℕ) (list : Fn m → Fn m → List Cube) (L : Fn (suc m)) (U : Fn (suc m)) where
+  pub P0-off : (q : Pt) → at m (P0 m list L U) q ≡ true → at m (U .1) q ≡ false
+  unfolding P0
+  P0-off q t = less-out m (L .0) (U .1) q t
+
+  pub P1-off : (q : Pt) → at m (P1 m list L U) q ≡ true → at m (U .0) q ≡ false
+  unfolding P1
+  P1-off q t = less-out m (L .1) (U .0) q t
+
+  pub C-for-left : (q : Pt) → at m (R0orR1 m list L U) q ≡ true → (at m (R0 m list L U) q ≡ true) ⊎ (at m (R1 m list L U) q ≡ true)
+  unfolding R0orR1
+  C-for-left q t =
+      or-true (at m (R0 m list L U) q) (at m (R1 m list L U) q)
+      (sym (at-either m (R0 m list L U) (R1 m list L U) q) ∙ t)

@@ -65,11 +65,12 @@ isLiteral sign0 = true
 isLiteral sign1 = true
 isLiteral dash = false
 
--- The number of a cube's literals: its signs that are not a dash.
+-- One more than a number where a test holds, else that number.
 unfoldable pub countIf : Bool → ℕ → ℕ
 countIf true n = suc n
 countIf false n = n
 
+-- The number of a cube's literals: its signs that are not a dash.
 unfoldable pub literals : Cube → ℕ
 literals [] = 0
 literals (s ∷ c) = countIf (isLiteral s) (literals c)

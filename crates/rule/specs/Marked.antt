@@ -1,4 +1,5 @@
--- The marked cases of document 01 as one table, and the one test over it.
+-- The marked cases of document 01 as one table, the cases that notice its errors that look right as another, and the one
+-- test over each.
 use mathlib.Core.Bool.{Bool, true, false, _&&_}
 use mathlib.Core.List.{List, [], _∷_, _++_, map}
 use Prim.Native.Nat.{ℕ, zero, suc}
@@ -101,3 +102,21 @@ marked =
   where
     unequal : List String
     unequal = "001" ∷ "010" ∷ "011" ∷ "100" ∷ "101" ∷ "110" ∷ []
+
+-- The errors that look right, each with cases that notice it.
+unfoldable pub looksRight : List Case
+looksRight =
+    -- Reading don't care as on in step 1: case 2 would give a cube.
+    lists 2 [] ("--" ∷ []) [] ∷
+    -- P0 = L0 less L1: in case 7 it leaves `01`, whose literal in column 0 can go.
+    lists 2 ("01" ∷ []) ("11" ∷ []) ("-1" ∷ []) ∷ judged 2 ("01" ∷ []) ("11" ∷ []) ("01" ∷ []) (literal 1 0) ∷
+    -- Skipping R0 and R1 and joining L0 and L1 by the table: on 010, 011, 101, 111 the redundant `-11` appears.
+    lists 3 halves [] ("01-" ∷ "1-1" ∷ []) ∷ judged 3 halves [] ("01-" ∷ "1-1" ∷ "-11" ∷ []) (cube 3) ∷
+    -- Testing a literal against the on set only: case 6 given as `11` would pass, though its literal in column 1 can go.
+    judged 2 ("11" ∷ []) ("10" ∷ []) ("11" ∷ []) (literal 1 1) ∷
+    -- Counting rows and literals instead of points: for on 01, 10 the rule gives two rows with four literals. As many are
+    -- `00`, `10`, with one literal on the wrong side: cube 1 covers the off point 00. As many are `01`, `01`: 10, number 1, is bare.
+    judged 2 ("01" ∷ "10" ∷ []) [] ("00" ∷ "10" ∷ []) (off 1 0) ∷ judged 2 ("01" ∷ "10" ∷ []) [] ("01" ∷ "01" ∷ []) (missing 1) ∷ []
+  where
+    halves : List String
+    halves = "010" ∷ "011" ∷ "101" ∷ "111" ∷ []

@@ -21,11 +21,12 @@ pub data Verdict : Type 0 where
   -- a cube can go: the cube
   cube : ℕ → Verdict
 
--- The first number below n that passes a test.
+-- One more than the number that was found, if one was.
 unfoldable pub next : Option ℕ → Option ℕ
 next (some k) = some (suc k)
 next none = none
 
+-- The first number below n that passes a test.
 unfoldable pub first : (ℕ → Bool) → ℕ → Option ℕ
 first test zero = none
 first test (suc n) = cond (test 0) (some 0) (next (first (λ k. test (suc k)) n))
