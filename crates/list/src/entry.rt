@@ -1,0 +1,115 @@
+// The entry of the generator: every input is answered, bad ones by document 01's numbers.
+ghost use mathlib.Core.Path.{_≡_};
+ghost use Prim.Native.Nat.{ℕ, _≤_};
+ghost use lib.ListN.{length, replicate};
+ghost use Rattle.rule.specs.Refusal.{firstBroken};
+ghost use Rattle.graph.specs.Entry.{cleared};
+ghost use Rattle.list.specs.Entry.{inputConditions, Generates};
+use crate::generator;
+use crate::generator::Listed;
+use graph::entry;
+use graph::walk;
+use rule::refusal;
+
+// The length of the list that stands in the room, or a refusal's number with what it returns.
+pub enum Generated {
+    Done(usize),
+    Refused(u16, usize),
+}
+
+// Refusals 1 to 6: the number of the first condition of the input that is broken, or 0.
+fn input_refusal(
+    columns: u16,
+    level: &[u16],
+    low: &[u16],
+    high: &[u16],
+    count: usize,
+    lower: u16,
+    upper: u16,
+    room: &[u32],
+) -> u16
+    ensures { λ r. ⌜ r ≡ firstBroken (inputConditions columns count (now (level .entry)) (now (low .entry)) (now (high .entry)) lower upper (now (room .entry))) ⌝ }
+{
+    let broken = entry::table_refusal(columns, level, low, high, count);
+    if broken != 0 {
+        return broken;
+    }
+    if !entry::in_range(count, lower) {
+        return refusal::OUT_OF_RANGE;
+    }
+    if !entry::in_range(count, upper) {
+        return refusal::OUT_OF_RANGE;
+    }
+    if !walk::within_from(level, low, high, count, columns, 0, lower, upper) {
+        return refusal::NOT_WITHIN;
+    }
+    if 16384 < room.len() {
+        return refusal::LIST_OVER;
+    }
+    refusal::DONE
+}
+
+// The whole list room becomes zero.
+fn clear_room(room: &mut [u32])
+    ensures { λ r. ⌜ now (room .exit) ≡ replicate (length (now (room .entry))) 0 ⌝ }
+{
+    let mut i = 0;
+    while i < room.len() {
+        room[i] = 0;
+        i += 1;
+    }
+}
+
+// The work records are given back: all records past the count become zero.
+fn give_back(level: &mut [u16], low: &mut [u16], high: &mut [u16], count: usize)
+    requires { ⌜ (count ≤ length (now level)) × (count ≤ length (now low)) × (count ≤ length (now high)) ⌝ }
+    ensures { λ r. ⌜ (now (level .exit) ≡ cleared count (now (level .entry))) × (now (low .exit) ≡ cleared count (now (low .entry))) × (now (high .exit) ≡ cleared count (now (high .entry))) ⌝ }
+{
+    entry::clear_from(level, count);
+    entry::clear_from(low, count);
+    entry::clear_from(high, count);
+}
+
+// The list of the rule for a lower and an upper root.
+pub fn generate(
+    columns: u16,
+    level: &mut [u16],
+    low: &mut [u16],
+    high: &mut [u16],
+    count: usize,
+    lower: u16,
+    upper: u16,
+    room: &mut [u32],
+) -> Generated
+    ensures { λ r. ⌜ Generates columns count (now (level .entry)) (now (low .entry)) (now (high .entry)) lower upper (now (room .entry)) (now (level .exit)) (now (low .exit)) (now (high .exit)) (now (room .exit)) r ⌝ }
+{
+    let broken = input_refusal(columns, level, low, high, count, lower, upper, room);
+    if broken != 0 {
+        return Generated::Refused(broken, 0);
+    }
+    clear_room(room);
+    let listed = generator::generate_at(
+        level,
+        low,
+        high,
+        room,
+        columns,
+        count,
+        0,
+        0,
+        1,
+        0,
+        lower,
+        upper,
+    );
+    give_back(level, low, high, count);
+    let Listed::Done(_, _, length) = listed else {
+        clear_room(room);
+        return Generated::Refused(refusal::NODES_LACK, 0);
+    };
+    if room.len() < length {
+        clear_room(room);
+        return Generated::Refused(refusal::LIST_LACKS, length);
+    }
+    Generated::Done(length)
+}
