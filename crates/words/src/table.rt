@@ -27,7 +27,8 @@ pub fn less_into(a: &mut [u64], b: &[u64])
 {
     let mut i = 0;
     while i < b.len() {
-        a[i] = a[i] ^ (a[i] & b[i]);
+        let x = a[i];
+        a[i] = x ^ (x & b[i]);
         i += 1;
     }
 }
@@ -39,7 +40,8 @@ pub fn left_into(a: &mut [u64], b: &[u64])
 {
     let mut i = 0;
     while i < b.len() {
-        a[i] = b[i] ^ (b[i] & a[i]);
+        let x = b[i];
+        a[i] = x ^ (x & a[i]);
         i += 1;
     }
 }
@@ -66,8 +68,9 @@ pub fn add_word(covered: &mut [u64], twice: &mut [u64], w: u64)
 {
     let mut i = 0;
     while i < covered.len() {
-        twice[i] = twice[i] | (w & covered[i]);
-        covered[i] = w | covered[i];
+        let x = covered[i];
+        twice[i] = twice[i] | (w & x);
+        covered[i] = w | x;
         i += 1;
     }
 }
