@@ -10,13 +10,14 @@ use lib.Arith.{mod-mul}
 use lib.Bits.{bitAnd, and-mask}
 use lib.Dec.{ltb, eqb, lit≤}
 use lib.ListN.{length, replicate}
-use lib.Pow.{pow-pos}
+use lib.Pow.{pow-pos, pow-mono}
 use borrow.Author.Tests.{lt-ltb, le-ltb, eq-eqb, ne-eqb, eqb-true, eqb-false}
 use Rattle.rule.specs.Func.{Fn, constant}
 use Rattle.rule.specs.Point.{odd}
 use Rattle.rule.specs.Cube.{cubeFn, under, leadSign, restSigns}
 use Rattle.rule.specs.Number.{signOf, signsFrom}
 use Rattle.rule.proofs.Bools.{and-left, and-right, not-is-true}
+use Rattle.rule.proofs.Masks.{second-decides, first-decides}
 use Rattle.rule.proofs.Points.{odd-true, odd-false}
 use Rattle.words.specs.Word.{num, words, size, cubeOf, plain, leaf}
 use Rattle.words.proofs.Tables.{few, words-few, words-halves, repeat-few, repeat-double}
@@ -140,3 +141,35 @@ plain-masks (suc m) o z h = go (few m) (plain-masks m (o / 2) (z / 2))
         regroup (not (odd o)) (not (odd z)) (eqb (o / 2 % 2 ^ (m - 6)) 0) (eqb (z / 2 % 2 ^ (m - 6)) 0) ∙
         sym (ap (λ k. eqb (o % 2 ^ k) 0 && eqb (z % 2 ^ k) 0) e ∙
         ap₂ _&&_ (low-bits (m - 6) o) (low-bits (m - 6) z))
+
+-- The test as the code shifts and masks it.
+module _ (m o z : ℕ) (more : 6 < m) (most : m ≤ 16) where
+  abbrev before : ℕ
+  before = 1 * 2 ^ (m - 6) % 65536
+
+  before-is : before ≡ 2 ^ (m - 6)
+  before-is =
+      let l : m - 6 ≤ 10 = omega arith in
+      let p : 2 ^ (m - 6) ≤ 2 ^ 10 = pow-mono l in
+      omega arith
+
+  pub before-some : 1 ≤ before
+  before-some = omega (arith, before-is, pow-pos (m - 6))
+
+  masked : (x : ℕ) → bitAnd x (before - 1) ≡ x % 2 ^ (m - 6)
+  masked x = ap (λ n. bitAnd x (n - 1)) before-is ∙ and-mask x (m - 6)
+
+  both-masked : plain m o z ≡ (eqb (bitAnd o (before - 1)) 0 && eqb (bitAnd z (before - 1)) 0)
+  both-masked =
+      let l : 6 ≤ m = omega arith in
+      plain-masks m o z l ∙ sym (ap₂ (λ x y. eqb x 0 && eqb y 0) (masked o) (masked z))
+
+  pub zeros-decide : bitAnd o (before - 1) ≡ 0 → eqb (bitAnd z (before - 1)) 0 ≡ plain m o z
+  zeros-decide e =
+      second-decides (eqb (bitAnd o (before - 1)) 0) (eqb (bitAnd z (before - 1)) 0) both-masked
+      (eq-eqb (bitAnd o (before - 1)) 0 e)
+
+  pub ones-decide : (bitAnd o (before - 1) ≡ 0 → ⊥) → eqb (bitAnd o (before - 1)) 0 ≡ plain m o z
+  ones-decide h =
+      first-decides (eqb (bitAnd o (before - 1)) 0) (eqb (bitAnd z (before - 1)) 0) both-masked
+      (ne-eqb (bitAnd o (before - 1)) 0 h)

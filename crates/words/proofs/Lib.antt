@@ -4,3 +4,4 @@ pub mod Loops
 pub mod Least
 pub mod Cubes
 pub mod Halving
+pub mod Flat

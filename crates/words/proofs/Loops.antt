@@ -1,5 +1,5 @@
 -- Loops over the words of a table that store one word a turn: what is stored so far, and what stands there at the end.
-use mathlib.Core.Path.{_≡_, refl, sym, ap, ap₂, _∙_, subst, subst⁻¹}
+use mathlib.Core.Path.{_≡_, refl, sym, ap, _∙_, subst⁻¹}
 use mathlib.Core.Bool.{Bool, true, false}
 use mathlib.Core.List.{List, [], _∷_, _++_, append-assoc, append-nil}
 use mathlib.Core.Logic.{_⊎_, inl, inr}
@@ -7,7 +7,7 @@ use Prim.Native.Nat.{ℕ, zero, suc, _+_, _<_, _≤_}
 use native.Mathlib.Numerals.{add-one}
 use native.Mathlib.Omega.{arith}
 use lib.Dec.{ltb}
-use lib.ListN.{length, getD, drop, set, replicate, length-append, length-drop, length-replicate, getD-replicate, drop-of-length-le, List·getD-append}
+use lib.ListN.{length, getD, drop, set, length-append, length-set, drop-of-length-le, List·getD-append}
 use lib.Seq.{drop-cons, set-at, getD-at, ext-getD}
 use borrow.Author.Tests.{ltb-true, ltb-false}
 use Rattle.words.specs.Word.{wordwise}
@@ -40,25 +40,21 @@ getD-front v (suc n) k h = go (which k n (omega arith)) (getD-front v n k)
 -- Each word before i is the value of its place, and the rest is as it was.
 pub record SoFar (v : ℕ → ℕ) (old now : List ℕ) (i : ℕ) : Type 0 where
   pub place : i ≤ length old
+  pub same : length now ≡ length old
   pub list : now ≡ front v i ++ drop i old
 
 pub so-far-none : (v : ℕ → ℕ) (old : List ℕ) → SoFar v old old 0
-so-far-none v old = record { place = omega arith; list = refl }
+so-far-none v old = record { place = omega arith; same = refl; list = refl }
 
 module _ {v : ℕ → ℕ} {old now : List ℕ} {i : ℕ} (s : SoFar v old now i) where
-  pub so-far-length : length now ≡ length old
-  so-far-length =
-      ap length (s .list) ∙
-      omega (arith, length-append (front v i) (drop i old), length-front v i, length-drop i old, s .place)
-
   -- What was not stored yet is as it was.
   pub so-far-read : i < length old → getD now i 0 ≡ getD old i 0
   so-far-read h =
       ap (λ l. getD l i 0) (s .list ∙ ap (λ l. front v i ++ l) (drop-cons old i 0 h)) ∙
       getD-at (front v i) (getD old i 0) (drop (suc i) old) 0 i (length-front v i)
 
-  pub so-far-next : i < length old → (x : ℕ) → x ≡ v i → SoFar v old (set now i x) (i + 1)
-  so-far-next h x e = record { place = omega arith; list = next }
+  pub so-far-next : i < length old → {x : ℕ} → x ≡ v i → SoFar v old (set now i x) (i + 1)
+  so-far-next h {x} e = record { place = omega arith; same = length-set now i x ∙ s .same; list = next }
     where
       stored : set now i x ≡ front v i ++ (v i ∷ drop (suc i) old)
       stored =
@@ -93,3 +89,12 @@ getD-wordwise on [] ys k e h = let z : ⊥ = omega arith in absurd z
 getD-wordwise on (x ∷ xs) [] k e h = let z : ⊥ = omega arith in absurd z
 getD-wordwise on (x ∷ xs) (y ∷ ys) zero e h = refl
 getD-wordwise on (x ∷ xs) (y ∷ ys) (suc k) e h = getD-wordwise on xs ys k (omega arith) (omega arith)
+
+-- A loop that joins two lists word by word.
+pub so-far-joined : (on : ℕ → ℕ → ℕ) (xs ys : List ℕ) {old now : List ℕ} {i : ℕ} → SoFar (λ k. on (getD xs k 0) (getD ys k 0)) old now i
+    → length old ≤ i → length xs ≡ length old → length ys ≡ length old → now ≡ wordwise on xs ys
+so-far-joined on xs ys {old} s h p q =
+    so-far-end s h (wordwise on xs ys) (length-wordwise on xs ys (p ∙ sym q) ∙ p)
+    (λ k l.
+    let b : k < length xs = omega arith in
+    sym (getD-wordwise on xs ys k (p ∙ sym q) b))
