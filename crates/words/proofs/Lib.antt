@@ -5,3 +5,6 @@ pub mod Least
 pub mod Cubes
 pub mod Halving
 pub mod Flat
+pub mod Halves
+pub mod Finding
+pub mod Adding

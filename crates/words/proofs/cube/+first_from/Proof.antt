@@ -1,341 +1,179 @@
-use Prim.Native.Nat.{ℕ, _<_}
+-- `words::cube::first_from` meets its contract: one word, nothing in any word, or the halves of the slice by the sign of the
+-- first column, the half for 0 first. The measure is the columns left.
+use mathlib.Core.Path.{sym, _∙_}
+use Prim.Native.Nat.{ℕ, _-_, _/_, _<_, _≤_}
+use native.Mathlib.Omega.{arith}
+use lib.ListN.{length}
+use lib.Seq.{length-take-le}
 use borrow.Fn.Kinds.{In}
 use borrow.Fn.PlainCycle.{Measures, is, falls, and}
+use Rattle.words.proofs.Tables.{size-few}
+use Rattle.words.proofs.Finding.{one-word, nothing-met, search-low, search-high, search-one, search-found, search-zero, search-dash, most-found}
 use Rattle.words.proofs.cube.first_from.Reads as first-from
-use Rattle.words.proofs.cube.first_from.Kinds as first-from-kinds
-use Rattle.words.proofs.cube.+first_from.Lts-first_from as first-from-lts
-use Rattle.words.proofs.cube.bare.Reads as bare-reads
-use Rattle.words.proofs.word.first_bit.Reads as first-bit-reads
+use Rattle.words.proofs.cube.first_from.Kinds as kinds
+use Rattle.words.proofs.cube.+first_from.Lts-first_from as lts
+use Rattle.words.proofs.cube.bare.Reads as bare
+use Rattle.words.proofs.word.first_bit.Reads as first-bit
 use Rattle.words.proofs.cube.+first_from.{statement}
 use Rattle.words.proofs.cube.+first_from.Tie.{close}
 
-abbrev μ-first-from : Measures 1 first-from-kinds.ps ℕ
-μ-first-from κs a = ?
+abbrev μ : Measures 1 kinds.ps ℕ
+μ κs a = a .1 .0
 
-abbrev first-from-at : ℕ → In 1 first-from-kinds.ps
-first-from-at t =
-    and 1 first-from-kinds.ps (is 1 first-from-kinds.ps μ-first-from t) first-from.Pre
+abbrev given : ℕ → In 1 kinds.ps
+given t = and 1 kinds.ps (is 1 kinds.ps μ t) first-from.Pre
 
-abbrev first-from-below : ℕ → In 1 first-from-kinds.ps
-first-from-below t =
-    and 1 first-from-kinds.ps (falls 1 first-from-kinds.ps _<_ μ-first-from t) first-from.Pre
+abbrev below : ℕ → In 1 kinds.ps
+below t = and 1 kinds.ps (falls 1 kinds.ps _<_ μ t) first-from.Pre
 
-first-from-shared-slice-read-first-bit : (t : ℕ) → first-from-lts.Need-shared-slice-read-first-bit (
-  first-bit-reads.Asked,
-  first-bit-reads.Learnt,
-  bare-reads.Asked,
-  bare-reads.Learnt,
-  first-from-below t,
-  first-from.Post,
-) (first-from-at t) first-from.Post
-first-from-shared-slice-read-first-bit t c = ?
+abbrev claims : ℕ → lts.Claims
+claims t = (first-bit.Asked, first-bit.Learnt, bare.Asked, bare.Learnt, below t, first-from.Post)
 
-first-from-first-bit-requires : (t : ℕ) → first-from-lts.Need-first-bit-requires (
-  first-bit-reads.Asked,
-  first-bit-reads.Learnt,
-  bare-reads.Asked,
-  bare-reads.Learnt,
-  first-from-below t,
-  first-from.Post,
-) (first-from-at t) first-from.Post
-first-from-first-bit-requires t c κs = ?
+shared-slice-read-first-bit : (t : ℕ) → lts.Need-shared-slice-read-first-bit (claims t) (given t) first-from.Post
+shared-slice-read-first-bit t c = 
+    let s = c .before .before .before in
+    omega (arith, s .pre .1 .long, size-few (s .args .columns) (c .before .if1 .taken))
 
-first-from-returns : (t : ℕ) → first-from-lts.Need-returns (
-  first-bit-reads.Asked,
-  first-bit-reads.Learnt,
-  bare-reads.Asked,
-  bare-reads.Learnt,
-  first-from-below t,
-  first-from.Post,
-) (first-from-at t) first-from.Post
-first-from-returns t c = ?
+first-bit-requires : (t : ℕ) → lts.Need-first-bit-requires (claims t) (given t) first-from.Post
+first-bit-requires t c κs = c .before .if1 .taken
 
-first-from-bare-requires : (t : ℕ) → first-from-lts.Need-bare-requires (
-  first-bit-reads.Asked,
-  first-bit-reads.Learnt,
-  bare-reads.Asked,
-  bare-reads.Learnt,
-  first-from-below t,
-  first-from.Post,
-) (first-from-at t) first-from.Post
-first-from-bare-requires t c κs = ?
+returns : (t : ℕ) → lts.Need-returns (claims t) (given t) first-from.Post
+returns t c = 
+    let s = c .before .before .before .before in
+    one-word (s .args .columns) (s .args .ones) (s .args .zeros) (s .args .w) (s .args .s .now) (c .first-bit .result) (s .pre .1) (c .before .before .if1 .taken) (c .first-bit .ensures)
 
-first-from-returns-2 : (t : ℕ) → first-from-lts.Need-returns-2 (
-  first-bit-reads.Asked,
-  first-bit-reads.Learnt,
-  bare-reads.Asked,
-  bare-reads.Learnt,
-  first-from-below t,
-  first-from.Post,
-) (first-from-at t) first-from.Post
-first-from-returns-2 t c = ?
+bare-requires : (t : ℕ) → lts.Need-bare-requires (claims t) (given t) first-from.Post
+bare-requires t c κs = c .before .before .pre .1 .columns
 
-first-from-mul-first-from : (t : ℕ) → first-from-lts.Need-mul-first-from (
-  first-bit-reads.Asked,
-  first-bit-reads.Learnt,
-  bare-reads.Asked,
-  bare-reads.Learnt,
-  first-from-below t,
-  first-from.Post,
-) (first-from-at t) first-from.Post
-first-from-mul-first-from t c = ?
+returns-2 : (t : ℕ) → lts.Need-returns-2 (claims t) (given t) first-from.Post
+returns-2 t c = 
+    let s = c .before .before .before .before in
+    nothing-met (s .args .columns) (s .args .ones) (s .args .zeros) (s .args .w) (s .args .s .now) (s .pre .1) (sym (c .before .bare .ensures) ∙ c .if2 .taken)
 
-first-from-sub-first-from : (t : ℕ) → first-from-lts.Need-sub-first-from (
-  first-bit-reads.Asked,
-  first-bit-reads.Learnt,
-  bare-reads.Asked,
-  bare-reads.Learnt,
-  first-from-below t,
-  first-from.Post,
-) (first-from-at t) first-from.Post
-first-from-sub-first-from t c = ?
+mul-first-from : (t : ℕ) → lts.Need-mul-first-from (claims t) (given t) first-from.Post
+mul-first-from t c = omega arith
 
-first-from-part-first-from-start : (t : ℕ) → first-from-lts.Need-part-first-from-start (
-  first-bit-reads.Asked,
-  first-bit-reads.Learnt,
-  bare-reads.Asked,
-  bare-reads.Learnt,
-  first-from-below t,
-  first-from.Post,
-) (first-from-at t) first-from.Post
-first-from-part-first-from-start t c = ?
+sub-first-from : (t : ℕ) → lts.Need-sub-first-from (claims t) (given t) first-from.Post
+sub-first-from t c = omega arith
 
-first-from-part-first-from-end : (t : ℕ) → first-from-lts.Need-part-first-from-end (
-  first-bit-reads.Asked,
-  first-bit-reads.Learnt,
-  bare-reads.Asked,
-  bare-reads.Learnt,
-  first-from-below t,
-  first-from.Post,
-) (first-from-at t) first-from.Post
-first-from-part-first-from-end t c = ?
+part-first-from-start : (t : ℕ) → lts.Need-part-first-from-start (claims t) (given t) first-from.Post
+part-first-from-start t c = omega arith
 
-first-from-sub-first-from-2 : (t : ℕ) → first-from-lts.Need-sub-first-from-2 (
-  first-bit-reads.Asked,
-  first-bit-reads.Learnt,
-  bare-reads.Asked,
-  bare-reads.Learnt,
-  first-from-below t,
-  first-from.Post,
-) (first-from-at t) first-from.Post
-first-from-sub-first-from-2 t c = ?
+part-first-from-end : (t : ℕ) → lts.Need-part-first-from-end (claims t) (given t) first-from.Post
+part-first-from-end t c = omega arith
 
-first-from-first-from-requires : (t : ℕ) → first-from-lts.Need-first-from-requires (
-  first-bit-reads.Asked,
-  first-bit-reads.Learnt,
-  bare-reads.Asked,
-  bare-reads.Learnt,
-  first-from-below t,
-  first-from.Post,
-) (first-from-at t) first-from.Post
-first-from-first-from-requires t c κs = ?
+sub-first-from-2 : (t : ℕ) → lts.Need-sub-first-from-2 (claims t) (given t) first-from.Post
+sub-first-from-2 t c = omega arith
 
-first-from-mul-result : (t : ℕ) → first-from-lts.Need-mul-result (
-  first-bit-reads.Asked,
-  first-bit-reads.Learnt,
-  bare-reads.Asked,
-  bare-reads.Learnt,
-  first-from-below t,
-  first-from.Post,
-) (first-from-at t) first-from.Post
-first-from-mul-result t c = ?
+first-from-requires : (t : ℕ) → lts.Need-first-from-requires (claims t) (given t) first-from.Post
+first-from-requires t c κs = 
+    let s = c .before .before .before .before .before .before in
+    (omega arith, search-high (s .args .columns) (s .args .ones) (s .args .zeros) (s .args .w) (s .args .s .now) (c .before .before .before .before .if1 .left) (s .pre .1))
 
-first-from-returns-3 : (t : ℕ) → first-from-lts.Need-returns-3 (
-  first-bit-reads.Asked,
-  first-bit-reads.Learnt,
-  bare-reads.Asked,
-  bare-reads.Learnt,
-  first-from-below t,
-  first-from.Post,
-) (first-from-at t) first-from.Post
-first-from-returns-3 t c = ?
+mul-result : (t : ℕ) → lts.Need-mul-result (claims t) (given t) first-from.Post
+mul-result t c = 
+    let s = c .before .before .before .before .before .before .before in
+    let l : s .args .columns - 1 ≤ 16 = omega (arith, s .pre .1 .columns) in
+    omega (arith, most-found (c .first-from .ensures) l)
 
-first-from-slice-aggregate-first-from : (t : ℕ) → first-from-lts.Need-slice-aggregate-first-from (
-  first-bit-reads.Asked,
-  first-bit-reads.Learnt,
-  bare-reads.Asked,
-  bare-reads.Learnt,
-  first-from-below t,
-  first-from.Post,
-) (first-from-at t) first-from.Post
-first-from-slice-aggregate-first-from t c = ?
+returns-3 : (t : ℕ) → lts.Need-returns-3 (claims t) (given t) first-from.Post
+returns-3 t c = 
+    let s = c .before .before .before .before .before .before .before in
+    search-one (s .args .columns) (s .args .ones) (s .args .zeros) (s .args .w) (s .args .s .now) (c .before .before .before .before .before .if1 .left) (s .pre .1) (c .first-from .result) (c .before .before .if3 .taken) (c .first-from .ensures)
 
-first-from-sub-first-from-3 : (t : ℕ) → first-from-lts.Need-sub-first-from-3 (
-  first-bit-reads.Asked,
-  first-bit-reads.Learnt,
-  bare-reads.Asked,
-  bare-reads.Learnt,
-  first-from-below t,
-  first-from.Post,
-) (first-from-at t) first-from.Post
-first-from-sub-first-from-3 t c = ?
+slice-aggregate-first-from : (t : ℕ) → lts.Need-slice-aggregate-first-from (claims t) (given t) first-from.Post
+slice-aggregate-first-from t c = 
+    let xs = c .before .before .before .before .before .before .args .s .now in
+    sym (length-take-le (length xs / 2) xs (omega arith))
 
-first-from-first-from-requires-2 : (t : ℕ) → first-from-lts.Need-first-from-requires-2 (
-  first-bit-reads.Asked,
-  first-bit-reads.Learnt,
-  bare-reads.Asked,
-  bare-reads.Learnt,
-  first-from-below t,
-  first-from.Post,
-) (first-from-at t) first-from.Post
-first-from-first-from-requires-2 t c κs = ?
+sub-first-from-3 : (t : ℕ) → lts.Need-sub-first-from-3 (claims t) (given t) first-from.Post
+sub-first-from-3 t c = omega arith
 
-first-from-mul-result-2 : (t : ℕ) → first-from-lts.Need-mul-result-2 (
-  first-bit-reads.Asked,
-  first-bit-reads.Learnt,
-  bare-reads.Asked,
-  bare-reads.Learnt,
-  first-from-below t,
-  first-from.Post,
-) (first-from-at t) first-from.Post
-first-from-mul-result-2 t c = ?
+first-from-requires-2 : (t : ℕ) → lts.Need-first-from-requires-2 (claims t) (given t) first-from.Post
+first-from-requires-2 t c κs = 
+    let s = c .before .before .before .before .before .before in
+    (omega arith, search-low (s .args .columns) (s .args .ones) (s .args .zeros) (s .args .w) (s .args .s .now) (c .before .before .before .before .if1 .left) (s .pre .1))
 
-first-from-sub-result : (t : ℕ) → first-from-lts.Need-sub-result (
-  first-bit-reads.Asked,
-  first-bit-reads.Learnt,
-  bare-reads.Asked,
-  bare-reads.Learnt,
-  first-from-below t,
-  first-from.Post,
-) (first-from-at t) first-from.Post
-first-from-sub-result t c = ?
+mul-result-2 : (t : ℕ) → lts.Need-mul-result-2 (claims t) (given t) first-from.Post
+mul-result-2 t c = 
+    let s = c .before .before .before .before .before .before .before .before in
+    let l : s .args .columns - 1 ≤ 16 = omega (arith, s .pre .1 .columns) in
+    omega (arith, most-found (c .before .first-from2 .ensures) l)
 
-first-from-returns-4 : (t : ℕ) → first-from-lts.Need-returns-4 (
-  first-bit-reads.Asked,
-  first-bit-reads.Learnt,
-  bare-reads.Asked,
-  bare-reads.Learnt,
-  first-from-below t,
-  first-from.Post,
-) (first-from-at t) first-from.Post
-first-from-returns-4 t c = ?
+sub-result : (t : ℕ) → lts.Need-sub-result (claims t) (given t) first-from.Post
+sub-result t c = omega arith
 
-first-from-returns-5 : (t : ℕ) → first-from-lts.Need-returns-5 (
-  first-bit-reads.Asked,
-  first-bit-reads.Learnt,
-  bare-reads.Asked,
-  bare-reads.Learnt,
-  first-from-below t,
-  first-from.Post,
-) (first-from-at t) first-from.Post
-first-from-returns-5 t c = ?
+returns-4 : (t : ℕ) → lts.Need-returns-4 (claims t) (given t) first-from.Post
+returns-4 t c = 
+    let s = c .before .before .before .before .before .before .before .before in
+    search-found (s .args .columns) (s .args .ones) (s .args .zeros) (s .args .w) (s .args .s .now) (c .before .before .before .before .before .before .if1 .left) (s .pre .1) (c .before .first-from2 .result) (c .before .before .before .if3 .left) (c .if4 .taken) (c .before .first-from2 .ensures)
 
-first-from-mul-first-from-2 : (t : ℕ) → first-from-lts.Need-mul-first-from-2 (
-  first-bit-reads.Asked,
-  first-bit-reads.Learnt,
-  bare-reads.Asked,
-  bare-reads.Learnt,
-  first-from-below t,
-  first-from.Post,
-) (first-from-at t) first-from.Post
-first-from-mul-first-from-2 t c = ?
+returns-5 : (t : ℕ) → lts.Need-returns-5 (claims t) (given t) first-from.Post
+returns-5 t c = 
+    let s = c .before .before .before .before .before .before .before .before .before in
+    search-zero (s .args .columns) (s .args .ones) (s .args .zeros) (s .args .w) (s .args .s .now) (c .before .before .before .before .before .before .before .if1 .left) (s .pre .1) (c .before .before .first-from2 .result) (c .before .before .before .before .if3 .left) (omega arith) (c .if5 .taken) (c .before .before .first-from2 .ensures)
 
-first-from-sub-first-from-4 : (t : ℕ) → first-from-lts.Need-sub-first-from-4 (
-  first-bit-reads.Asked,
-  first-bit-reads.Learnt,
-  bare-reads.Asked,
-  bare-reads.Learnt,
-  first-from-below t,
-  first-from.Post,
-) (first-from-at t) first-from.Post
-first-from-sub-first-from-4 t c = ?
+mul-first-from-2 : (t : ℕ) → lts.Need-mul-first-from-2 (claims t) (given t) first-from.Post
+mul-first-from-2 t c = omega arith
 
-first-from-part-first-from-start-2 : (t : ℕ) → first-from-lts.Need-part-first-from-start-2 (
-  first-bit-reads.Asked,
-  first-bit-reads.Learnt,
-  bare-reads.Asked,
-  bare-reads.Learnt,
-  first-from-below t,
-  first-from.Post,
-) (first-from-at t) first-from.Post
-first-from-part-first-from-start-2 t c = ?
+sub-first-from-4 : (t : ℕ) → lts.Need-sub-first-from-4 (claims t) (given t) first-from.Post
+sub-first-from-4 t c = omega arith
 
-first-from-part-first-from-end-2 : (t : ℕ) → first-from-lts.Need-part-first-from-end-2 (
-  first-bit-reads.Asked,
-  first-bit-reads.Learnt,
-  bare-reads.Asked,
-  bare-reads.Learnt,
-  first-from-below t,
-  first-from.Post,
-) (first-from-at t) first-from.Post
-first-from-part-first-from-end-2 t c = ?
+part-first-from-start-2 : (t : ℕ) → lts.Need-part-first-from-start-2 (claims t) (given t) first-from.Post
+part-first-from-start-2 t c = omega arith
 
-first-from-sub-first-from-5 : (t : ℕ) → first-from-lts.Need-sub-first-from-5 (
-  first-bit-reads.Asked,
-  first-bit-reads.Learnt,
-  bare-reads.Asked,
-  bare-reads.Learnt,
-  first-from-below t,
-  first-from.Post,
-) (first-from-at t) first-from.Post
-first-from-sub-first-from-5 t c = ?
+part-first-from-end-2 : (t : ℕ) → lts.Need-part-first-from-end-2 (claims t) (given t) first-from.Post
+part-first-from-end-2 t c = omega arith
 
-first-from-first-from-requires-3 : (t : ℕ) → first-from-lts.Need-first-from-requires-3 (
-  first-bit-reads.Asked,
-  first-bit-reads.Learnt,
-  bare-reads.Asked,
-  bare-reads.Learnt,
-  first-from-below t,
-  first-from.Post,
-) (first-from-at t) first-from.Post
-first-from-first-from-requires-3 t c κs = ?
+sub-first-from-5 : (t : ℕ) → lts.Need-sub-first-from-5 (claims t) (given t) first-from.Post
+sub-first-from-5 t c = omega arith
 
-first-from-mul-result-3 : (t : ℕ) → first-from-lts.Need-mul-result-3 (
-  first-bit-reads.Asked,
-  first-bit-reads.Learnt,
-  bare-reads.Asked,
-  bare-reads.Learnt,
-  first-from-below t,
-  first-from.Post,
-) (first-from-at t) first-from.Post
-first-from-mul-result-3 t c = ?
+first-from-requires-3 : (t : ℕ) → lts.Need-first-from-requires-3 (claims t) (given t) first-from.Post
+first-from-requires-3 t c κs = 
+    let s = c .before .before .before .before .before .before .before .before .before .before in
+    (omega arith, search-high (s .args .columns) (s .args .ones) (s .args .zeros) (s .args .w) (s .args .s .now) (c .before .before .before .before .before .before .before .before .if1 .left) (s .pre .1))
 
-first-from-returns-6 : (t : ℕ) → first-from-lts.Need-returns-6 (
-  first-bit-reads.Asked,
-  first-bit-reads.Learnt,
-  bare-reads.Asked,
-  bare-reads.Learnt,
-  first-from-below t,
-  first-from.Post,
-) (first-from-at t) first-from.Post
-first-from-returns-6 t c = ?
+mul-result-3 : (t : ℕ) → lts.Need-mul-result-3 (claims t) (given t) first-from.Post
+mul-result-3 t c = 
+    let s = c .before .before .before .before .before .before .before .before .before .before .before in
+    let l : s .args .columns - 1 ≤ 16 = omega (arith, s .pre .1 .columns) in
+    omega (arith, most-found (c .first-from3 .ensures) l)
+
+returns-6 : (t : ℕ) → lts.Need-returns-6 (claims t) (given t) first-from.Post
+returns-6 t c = 
+    let s = c .before .before .before .before .before .before .before .before .before .before .before in
+    search-dash (s .args .columns) (s .args .ones) (s .args .zeros) (s .args .w) (s .args .s .now) (c .before .before .before .before .before .before .before .before .before .if1 .left) (s .pre .1) (c .before .before .before .before .first-from2 .result) (c .first-from3 .result) (c .before .before .before .before .before .before .if3 .left) (omega arith) (c .before .before .if5 .left) (c .before .before .before .before .first-from2 .ensures) (c .first-from3 .ensures)
 
 pub +first-from-spec : {M : Type 1} → statement M
-+first-from-spec = close μ-first-from λ t. first-from-lts.spec (
-  first-bit-reads.Asked,
-  first-bit-reads.Learnt,
-  bare-reads.Asked,
-  bare-reads.Learnt,
-  first-from-below t,
-  first-from.Post,
-)
-    (first-from-at t)
-    first-from.Post
-    (first-from-shared-slice-read-first-bit t)
-    (first-from-first-bit-requires t)
-    (first-from-returns t)
-    (first-from-bare-requires t)
-    (first-from-returns-2 t)
-    (first-from-mul-first-from t)
-    (first-from-sub-first-from t)
-    (first-from-part-first-from-start t)
-    (first-from-part-first-from-end t)
-    (first-from-sub-first-from-2 t)
-    (first-from-first-from-requires t)
-    (first-from-mul-result t)
-    (first-from-returns-3 t)
-    (first-from-slice-aggregate-first-from t)
-    (first-from-sub-first-from-3 t)
-    (first-from-first-from-requires-2 t)
-    (first-from-mul-result-2 t)
-    (first-from-sub-result t)
-    (first-from-returns-4 t)
-    (first-from-returns-5 t)
-    (first-from-mul-first-from-2 t)
-    (first-from-sub-first-from-4 t)
-    (first-from-part-first-from-start-2 t)
-    (first-from-part-first-from-end-2 t)
-    (first-from-sub-first-from-5 t)
-    (first-from-first-from-requires-3 t)
-    (first-from-mul-result-3 t)
-    (first-from-returns-6 t)
++first-from-spec =
+    close μ
+    (λ t.
+    lts.spec (claims t) (given t) first-from.Post
+    (shared-slice-read-first-bit t)
+    (first-bit-requires t)
+    (returns t)
+    (bare-requires t)
+    (returns-2 t)
+    (mul-first-from t)
+    (sub-first-from t)
+    (part-first-from-start t)
+    (part-first-from-end t)
+    (sub-first-from-2 t)
+    (first-from-requires t)
+    (mul-result t)
+    (returns-3 t)
+    (slice-aggregate-first-from t)
+    (sub-first-from-3 t)
+    (first-from-requires-2 t)
+    (mul-result-2 t)
+    (sub-result t)
+    (returns-4 t)
+    (returns-5 t)
+    (mul-first-from-2 t)
+    (sub-first-from-4 t)
+    (part-first-from-start-2 t)
+    (part-first-from-end-2 t)
+    (sub-first-from-5 t)
+    (first-from-requires-3 t)
+    (mul-result-3 t)
+    (returns-6 t))
