@@ -92,7 +92,7 @@ words-plain (suc m) o z e = go (few m) (words-plain m (o / 2) (z / 2))
         let o₀ : odd o ≡ false = not-is-true (odd o) (and-left (not (odd o)) (not (odd z)) q) in
         let z₀ : odd z ≡ false = not-is-true (odd z) (and-right (not (odd o)) (not (odd z)) q) in
         let t : words m (cubeOf m (o / 2) (z / 2)) ≡ replicate (size m) (leaf m (o / 2) (z / 2)) =
-            ih (and-right (not (odd o) && not (odd z)) (plain m (o / 2) (z / 2)) p) in
+        ih (and-right (not (odd o) && not (odd z)) (plain m (o / 2) (z / 2)) p) in
         words-halves m (cubeOf (suc m) o z) h ∙
         ap (λ f. words m (f .0) ++ words m (f .1)) (cube-dash m o z o₀ z₀) ∙
         ap₂ _++_ t t ∙ repeat-double m (leaf m (o / 2) (z / 2)) h ∙
@@ -111,6 +111,7 @@ low-bits k x = ap (λ n. eqb n 0) split ∙ go (odd x) refl
   where
     split : x % 2 ^ suc k ≡ (x / 2 % 2 ^ k) * 2 + x % 2
     split = ap (λ n. x % n) (pow-suc 2 k) ∙ mod-mul x (pow-pos k) (pow-pos 1)
+
     go : (b : Bool) → odd x ≡ b → eqb ((x / 2 % 2 ^ k) * 2 + x % 2) 0 ≡ (not b && eqb (x / 2 % 2 ^ k) 0)
     go true e = ne-eqb ((x / 2 % 2 ^ k) * 2 + x % 2) 0 (λ p. let q : x % 2 ≡ 1 = odd-true x e in omega arith)
     go false e = ap (λ n. eqb ((x / 2 % 2 ^ k) * 2 + n) 0) (odd-false x e) ∙ twice-zero (x / 2 % 2 ^ k)

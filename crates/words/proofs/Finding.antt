@@ -49,11 +49,11 @@ nothing-met m o z w xs s e = record { bound = omega arith; found = found }
     found : (f : Fn m) → xs ≡ words m f → 0 ≡ foundNumber (smallest m (both m (cubeOf m o z) f))
     found f p =
         let a : words m (cubeOf m o z) ≡ replicate (length xs) w =
-            words-plain m o z (and-left (plain m o z) (noneMeets w xs) e) ∙ ap₂ replicate (sym (s .long)) (sym (s .word)) in
+        words-plain m o z (and-left (plain m o z) (noneMeets w xs) e) ∙ ap₂ replicate (sym (s .long)) (sym (s .word)) in
         let b : words m (both m (cubeOf m o z) f) ≡ words m (constant m false) =
-            words-both m (cubeOf m o z) f ∙ ap₂ (wordwise bitAnd) a (sym p) ∙
-            none-met w xs (and-right (plain m o z) (noneMeets w xs) e) ∙
-            ap (λ n. replicate n 0) (s .long) ∙ sym (words-false m) in
+        words-both m (cubeOf m o z) f ∙ ap₂ (wordwise bitAnd) a (sym p) ∙
+        none-met w xs (and-right (plain m o z) (noneMeets w xs) e) ∙
+        ap (λ n. replicate n 0) (s .long) ∙ sym (words-false m) in
         sym (ap (λ g. foundNumber (smallest m g)) (words-tell m (both m (cubeOf m o z) f) (constant m false) b) ∙ none-found m)
 
 -- The halves of a table of more than six columns, as the code cuts it.

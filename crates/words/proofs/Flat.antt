@@ -51,7 +51,7 @@ pub added-again : (w : ℕ) (covered old : List ℕ) {now : List ℕ} {i : ℕ}
 added-again w covered old {i = i} s h e =
     let r : length (replicate (length covered) w) ≡ length covered = length-replicate (length covered) w in
     let q : length (wordwise bitAnd (replicate (length covered) w) covered) ≡ length covered =
-        length-wordwise bitAnd (replicate (length covered) w) covered r ∙ r in
+    length-wordwise bitAnd (replicate (length covered) w) covered r ∙ r in
     let t : length old ≡ length (wordwise bitAnd (replicate (length covered) w) covered) = e ∙ sym q in
     let d : length old ≤ i = omega arith in
     so-far-end s d (wordwise bitOr old (wordwise bitAnd (replicate (length covered) w) covered))

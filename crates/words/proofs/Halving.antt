@@ -54,7 +54,7 @@ pub constant-many : (m : ℕ) → 6 ≤ m → ConstantWord m true 18446744073709
 constant-many m h =
     let w : 18446744073709551615 ≡ num 6 (constant 6 true) = omega (arith, num-true 6) in
     let v : m ≤ 6 → 18446744073709551615 ≡ num m (constant m true) =
-        λ l. let e : m ≡ 6 = omega arith in w ∙ ap (λ n. num n (constant n true)) (sym e) in
+    λ l. let e : m ≡ 6 = omega arith in w ∙ ap (λ n. num n (constant n true)) (sym e) in
     record { few = v; table = words-constant m true 18446744073709551615 v (λ l. w) }
 
 -- A word shifted above another.

@@ -61,6 +61,7 @@ module _ {v : ℕ → ℕ} {old now : List ℕ} {i : ℕ} (s : SoFar v old now i
           ap (λ l. set l i x) (s .list ∙ ap (λ l. front v i ++ l) (drop-cons old i 0 h)) ∙
           set-at (front v i) (getD old i 0) (drop (suc i) old) x i (length-front v i) ∙
           ap (λ y. front v i ++ (y ∷ drop (suc i) old)) e
+
       next : set now i x ≡ front v (i + 1) ++ drop (i + 1) old
       next =
           subst⁻¹ (λ k. set now i x ≡ front v k ++ drop k old) (add-one i)
@@ -71,7 +72,7 @@ module _ {v : ℕ → ℕ} {old now : List ℕ} {i : ℕ} (s : SoFar v old now i
   so-far-end h new l each =
       let e : i ≡ length old = omega (arith, s .place) in
       let w : now ≡ front v i =
-          s .list ∙ ap (λ x. front v i ++ x) (drop-of-length-le old h) ∙ append-nil (front v i) in
+      s .list ∙ ap (λ x. front v i ++ x) (drop-of-length-le old h) ∙ append-nil (front v i) in
       w ∙
       ext-getD 0 (front v i) new (length-front v i ∙ e ∙ sym l)
       (λ k b. getD-front v i k (omega (arith, length-front v i)) ∙ each k (omega (arith, length-front v i)))

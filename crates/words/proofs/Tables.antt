@@ -81,11 +81,11 @@ words-tell =
     (λ m f h a b g e.
     let w : words m (f .0) ++ words m (f .1) ≡ words m (g .0) ++ words m (g .1) = sym (words-halves m f h) ∙ e ∙ words-halves m g h in
     let l : words m (f .0) ≡ words m (g .0) =
-        sym (take-at (words m (f .0)) (words m (f .1)) (size m) (length-words m (f .0))) ∙
-        ap (take (size m)) w ∙ take-at (words m (g .0)) (words m (g .1)) (size m) (length-words m (g .0)) in
+    sym (take-at (words m (f .0)) (words m (f .1)) (size m) (length-words m (f .0))) ∙
+    ap (take (size m)) w ∙ take-at (words m (g .0)) (words m (g .1)) (size m) (length-words m (g .0)) in
     let r : words m (f .1) ≡ words m (g .1) =
-        sym (drop-at (words m (f .0)) (words m (f .1)) (size m) (length-words m (f .0))) ∙
-        ap (drop (size m)) w ∙ drop-at (words m (g .0)) (words m (g .1)) (size m) (length-words m (g .0)) in
+    sym (drop-at (words m (f .0)) (words m (f .1)) (size m) (length-words m (f .0))) ∙
+    ap (drop (size m)) w ∙ drop-at (words m (g .0)) (words m (g .1)) (size m) (length-words m (g .0)) in
     λ i. (a (g .0) l i, b (g .1) r i))
   where
     head-told : {x y : ℕ} → x ∷ [] ≡ y ∷ [] → x ≡ y
@@ -145,7 +145,7 @@ words-constant (suc m) b w p q = go (few m) (words-constant m b w)
     go (inr h) ih =
         let s : 6 ≤ suc m = omega arith in
         let t : words m (constant m b) ≡ replicate (size m) w =
-            ih (λ l. let e : m ≡ 6 = omega arith in q s ∙ ap (λ n. num n (constant n b)) (sym e)) (λ k. q s) in
+        ih (λ l. let e : m ≡ 6 = omega arith in q s ∙ ap (λ n. num n (constant n b)) (sym e)) (λ k. q s) in
         words-halves m (constant (suc m) b) h ∙ ap₂ _++_ t t ∙ repeat-double m w h
 
 pub words-false : (m : ℕ) → words m (constant m false) ≡ replicate (size m) 0

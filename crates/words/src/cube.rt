@@ -67,14 +67,7 @@ pub fn first_in(s: &[u64], columns: u16, ones: u16, zeros: u16) -> u32
 }
 
 // The addition below, given the word of the cube's last six columns.
-fn add_from(
-    covered: &mut [u64],
-    twice: &mut [u64],
-    columns: u16,
-    ones: u16,
-    zeros: u16,
-    w: u64,
-)
+fn add_from(covered: &mut [u64], twice: &mut [u64], columns: u16, ones: u16, zeros: u16, w: u64)
     requires { ⌜ SizedBothWord columns ones zeros w (now covered) (now twice) ⌝ }
     ensures { λ r. ⌜ Added columns ones zeros (now (covered .entry)) (now (twice .entry)) (now (covered .exit)) (now (twice .exit)) ⌝ }
 {
@@ -84,14 +77,35 @@ fn add_from(
     }
     let h = covered.len() / 2;
     if ones % 2 == 1 {
-        add_from(&mut covered[h..], &mut twice[h..], columns - 1, ones / 2, zeros / 2, w);
+        add_from(
+            &mut covered[h..],
+            &mut twice[h..],
+            columns - 1,
+            ones / 2,
+            zeros / 2,
+            w,
+        );
         return;
     }
-    add_from(&mut covered[..h], &mut twice[..h], columns - 1, ones / 2, zeros / 2, w);
+    add_from(
+        &mut covered[..h],
+        &mut twice[..h],
+        columns - 1,
+        ones / 2,
+        zeros / 2,
+        w,
+    );
     if zeros % 2 == 1 {
         return;
     }
-    add_from(&mut covered[h..], &mut twice[h..], columns - 1, ones / 2, zeros / 2, w);
+    add_from(
+        &mut covered[h..],
+        &mut twice[h..],
+        columns - 1,
+        ones / 2,
+        zeros / 2,
+        w,
+    );
 }
 
 // Adds a cube to what is covered, and what of it was covered before to what is covered twice.

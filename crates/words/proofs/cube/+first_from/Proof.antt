@@ -30,7 +30,7 @@ abbrev claims : ℕ → lts.Claims
 claims t = (first-bit.Asked, first-bit.Learnt, bare.Asked, bare.Learnt, below t, first-from.Post)
 
 shared-slice-read-first-bit : (t : ℕ) → lts.Need-shared-slice-read-first-bit (claims t) (given t) first-from.Post
-shared-slice-read-first-bit t c = 
+shared-slice-read-first-bit t c =
     let s = c .before .before .before in
     omega (arith, s .pre .1 .long, size-few (s .args .columns) (c .before .if1 .taken))
 
@@ -38,7 +38,7 @@ first-bit-requires : (t : ℕ) → lts.Need-first-bit-requires (claims t) (given
 first-bit-requires t c κs = c .before .if1 .taken
 
 returns : (t : ℕ) → lts.Need-returns (claims t) (given t) first-from.Post
-returns t c = 
+returns t c =
     let s = c .before .before .before .before in
     one-word (s .args .columns) (s .args .ones) (s .args .zeros) (s .args .w) (s .args .s .now) (c .first-bit .result) (s .pre .1) (c .before .before .if1 .taken) (c .first-bit .ensures)
 
@@ -46,7 +46,7 @@ bare-requires : (t : ℕ) → lts.Need-bare-requires (claims t) (given t) first-
 bare-requires t c κs = c .before .before .pre .1 .columns
 
 returns-2 : (t : ℕ) → lts.Need-returns-2 (claims t) (given t) first-from.Post
-returns-2 t c = 
+returns-2 t c =
     let s = c .before .before .before .before in
     nothing-met (s .args .columns) (s .args .ones) (s .args .zeros) (s .args .w) (s .args .s .now) (s .pre .1) (sym (c .before .bare .ensures) ∙ c .if2 .taken)
 
@@ -66,23 +66,23 @@ sub-first-from-2 : (t : ℕ) → lts.Need-sub-first-from-2 (claims t) (given t) 
 sub-first-from-2 t c = omega arith
 
 first-from-requires : (t : ℕ) → lts.Need-first-from-requires (claims t) (given t) first-from.Post
-first-from-requires t c κs = 
+first-from-requires t c κs =
     let s = c .before .before .before .before .before .before in
     (omega arith, search-high (s .args .columns) (s .args .ones) (s .args .zeros) (s .args .w) (s .args .s .now) (c .before .before .before .before .if1 .left) (s .pre .1))
 
 mul-result : (t : ℕ) → lts.Need-mul-result (claims t) (given t) first-from.Post
-mul-result t c = 
+mul-result t c =
     let s = c .before .before .before .before .before .before .before in
     let l : s .args .columns - 1 ≤ 16 = omega (arith, s .pre .1 .columns) in
     omega (arith, most-found (c .first-from .ensures) l)
 
 returns-3 : (t : ℕ) → lts.Need-returns-3 (claims t) (given t) first-from.Post
-returns-3 t c = 
+returns-3 t c =
     let s = c .before .before .before .before .before .before .before in
     search-one (s .args .columns) (s .args .ones) (s .args .zeros) (s .args .w) (s .args .s .now) (c .before .before .before .before .before .if1 .left) (s .pre .1) (c .first-from .result) (c .before .before .if3 .taken) (c .first-from .ensures)
 
 slice-aggregate-first-from : (t : ℕ) → lts.Need-slice-aggregate-first-from (claims t) (given t) first-from.Post
-slice-aggregate-first-from t c = 
+slice-aggregate-first-from t c =
     let xs = c .before .before .before .before .before .before .args .s .now in
     sym (length-take-le (length xs / 2) xs (omega arith))
 
@@ -90,12 +90,12 @@ sub-first-from-3 : (t : ℕ) → lts.Need-sub-first-from-3 (claims t) (given t) 
 sub-first-from-3 t c = omega arith
 
 first-from-requires-2 : (t : ℕ) → lts.Need-first-from-requires-2 (claims t) (given t) first-from.Post
-first-from-requires-2 t c κs = 
+first-from-requires-2 t c κs =
     let s = c .before .before .before .before .before .before in
     (omega arith, search-low (s .args .columns) (s .args .ones) (s .args .zeros) (s .args .w) (s .args .s .now) (c .before .before .before .before .if1 .left) (s .pre .1))
 
 mul-result-2 : (t : ℕ) → lts.Need-mul-result-2 (claims t) (given t) first-from.Post
-mul-result-2 t c = 
+mul-result-2 t c =
     let s = c .before .before .before .before .before .before .before .before in
     let l : s .args .columns - 1 ≤ 16 = omega (arith, s .pre .1 .columns) in
     omega (arith, most-found (c .before .first-from2 .ensures) l)
@@ -104,12 +104,12 @@ sub-result : (t : ℕ) → lts.Need-sub-result (claims t) (given t) first-from.P
 sub-result t c = omega arith
 
 returns-4 : (t : ℕ) → lts.Need-returns-4 (claims t) (given t) first-from.Post
-returns-4 t c = 
+returns-4 t c =
     let s = c .before .before .before .before .before .before .before .before in
     search-found (s .args .columns) (s .args .ones) (s .args .zeros) (s .args .w) (s .args .s .now) (c .before .before .before .before .before .before .if1 .left) (s .pre .1) (c .before .first-from2 .result) (c .before .before .before .if3 .left) (c .if4 .taken) (c .before .first-from2 .ensures)
 
 returns-5 : (t : ℕ) → lts.Need-returns-5 (claims t) (given t) first-from.Post
-returns-5 t c = 
+returns-5 t c =
     let s = c .before .before .before .before .before .before .before .before .before in
     search-zero (s .args .columns) (s .args .ones) (s .args .zeros) (s .args .w) (s .args .s .now) (c .before .before .before .before .before .before .before .if1 .left) (s .pre .1) (c .before .before .first-from2 .result) (c .before .before .before .before .if3 .left) (omega arith) (c .if5 .taken) (c .before .before .first-from2 .ensures)
 
@@ -129,18 +129,18 @@ sub-first-from-5 : (t : ℕ) → lts.Need-sub-first-from-5 (claims t) (given t) 
 sub-first-from-5 t c = omega arith
 
 first-from-requires-3 : (t : ℕ) → lts.Need-first-from-requires-3 (claims t) (given t) first-from.Post
-first-from-requires-3 t c κs = 
+first-from-requires-3 t c κs =
     let s = c .before .before .before .before .before .before .before .before .before .before in
     (omega arith, search-high (s .args .columns) (s .args .ones) (s .args .zeros) (s .args .w) (s .args .s .now) (c .before .before .before .before .before .before .before .before .if1 .left) (s .pre .1))
 
 mul-result-3 : (t : ℕ) → lts.Need-mul-result-3 (claims t) (given t) first-from.Post
-mul-result-3 t c = 
+mul-result-3 t c =
     let s = c .before .before .before .before .before .before .before .before .before .before .before in
     let l : s .args .columns - 1 ≤ 16 = omega (arith, s .pre .1 .columns) in
     omega (arith, most-found (c .first-from3 .ensures) l)
 
 returns-6 : (t : ℕ) → lts.Need-returns-6 (claims t) (given t) first-from.Post
-returns-6 t c = 
+returns-6 t c =
     let s = c .before .before .before .before .before .before .before .before .before .before .before in
     search-dash (s .args .columns) (s .args .ones) (s .args .zeros) (s .args .w) (s .args .s .now) (c .before .before .before .before .before .before .before .before .before .if1 .left) (s .pre .1) (c .before .before .before .before .first-from2 .result) (c .first-from3 .result) (c .before .before .before .before .before .before .if3 .left) (omega arith) (c .before .before .if5 .left) (c .before .before .before .before .first-from2 .ensures) (c .first-from3 .ensures)
 

@@ -52,7 +52,7 @@ loop-less : tie.Need-loop-less Inv-loop μ-loop
 loop-less c = omega arith
 
 loop-again : tie.Need-loop-again Inv-loop μ-loop
-loop-again c = 
+loop-again c =
     let at = c .before .before .before in
     let w = at .before .args .w in
     let x = so-far-read (at .loop .inv .0) (omega arith) in
@@ -68,7 +68,7 @@ same-length-2 : tie.Need-same-length-2 Inv-loop μ-loop
 same-length-2 c = c .before .loop .inv .1 .same
 
 returns : tie.Need-returns Inv-loop μ-loop
-returns c = 
+returns c =
     let s = c .before .before in (
       added-once (s .args .w) (s .args .covered .now) (c .before .loop .inv .0) (omega arith),
       added-again (s .args .w) (s .args .covered .now) (s .args .twice .now) (c .before .loop .inv .1) (omega arith) (s .pre),

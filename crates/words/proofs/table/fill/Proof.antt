@@ -40,7 +40,7 @@ same-length : tie.Need-same-length Inv-loop μ-loop
 same-length c = c .before .loop .inv .same
 
 returns : tie.Need-returns Inv-loop μ-loop
-returns c = 
+returns c =
     let s = c .before .before .before .before in
     let w = c .before .before .constant-word in
     filled (s .args .columns) (s .args .b) (w .result) (w .ensures) (s .pre) (c .before .loop .inv) (omega arith)

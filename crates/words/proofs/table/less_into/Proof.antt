@@ -44,7 +44,7 @@ loop-less : tie.Need-loop-less Inv-loop μ-loop
 loop-less c = omega arith
 
 loop-again : tie.Need-loop-again Inv-loop μ-loop
-loop-again c = 
+loop-again c =
     let at = c .before .before .before in
     so-far-next (at .loop .inv) (omega arith)
     (ap (λ x. lessWord x (getD (at .before .args .b .now) (at .loop .i) 0)) (so-far-read (at .loop .inv) (omega arith)))
@@ -53,7 +53,7 @@ same-length : tie.Need-same-length Inv-loop μ-loop
 same-length c = c .before .loop .inv .same
 
 returns : tie.Need-returns Inv-loop μ-loop
-returns c = 
+returns c =
     let s = c .before .before in
     lessened (s .args .a .now) (s .args .b .now)
     (so-far-joined lessWord (s .args .a .now) (s .args .b .now) (c .before .loop .inv) (omega arith) (omega arith) (omega arith))
