@@ -44,17 +44,19 @@ fn first_from(s: &[u64], columns: u16, ones: u16, zeros: u16, w: u64) -> u32
         return 0;
     }
     let h = s.len() / 2;
+    let low = &s[..h];
+    let high = &s[h..];
     if ones % 2 == 1 {
-        return 2 * first_from(&s[h..], columns - 1, ones / 2, zeros / 2, w);
+        return 2 * first_from(high, columns - 1, ones / 2, zeros / 2, w);
     }
-    let low = first_from(&s[..h], columns - 1, ones / 2, zeros / 2, w);
-    if low != 0 {
-        return 2 * low - 1;
+    let r = first_from(low, columns - 1, ones / 2, zeros / 2, w);
+    if r != 0 {
+        return 2 * r - 1;
     }
     if zeros % 2 == 1 {
         return 0;
     }
-    2 * first_from(&s[h..], columns - 1, ones / 2, zeros / 2, w)
+    2 * first_from(high, columns - 1, ones / 2, zeros / 2, w)
 }
 
 // The smallest point of a table that a cube covers: 0 where there is none, else its number and 1.

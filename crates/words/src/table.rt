@@ -28,7 +28,8 @@ pub fn less_into(a: &mut [u64], b: &[u64])
     let mut i = 0;
     while i < b.len() {
         let x = a[i];
-        a[i] = x ^ (x & b[i]);
+        let y = b[i];
+        a[i] = x ^ (x & y);
         i += 1;
     }
 }
@@ -40,8 +41,9 @@ pub fn left_into(a: &mut [u64], b: &[u64])
 {
     let mut i = 0;
     while i < b.len() {
-        let x = b[i];
-        a[i] = x ^ (x & a[i]);
+        let x = a[i];
+        let y = b[i];
+        a[i] = y ^ (y & x);
         i += 1;
     }
 }

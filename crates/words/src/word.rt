@@ -75,9 +75,11 @@ pub fn first_bit(w: u64, columns: u16) -> u32
         return 1;
     }
     let n = points(columns - 1);
-    let low = first_bit(w & (side(columns - 1) - 1), columns - 1);
-    if low != 0 {
-        return 2 * low - 1;
+    let low = w & (side(columns - 1) - 1);
+    let high = w >> n;
+    let r = first_bit(low, columns - 1);
+    if r != 0 {
+        return 2 * r - 1;
     }
-    2 * first_bit(w >> n, columns - 1)
+    2 * first_bit(high, columns - 1)
 }

@@ -50,53 +50,53 @@ returns-2 t c =
     let s = c .before .before .before .before in
     nothing-met (s .args .columns) (s .args .ones) (s .args .zeros) (s .args .w) (s .args .s .now) (s .pre .1) (sym (c .before .bare .ensures) ∙ c .if2 .taken)
 
-mul-first-from : (t : ℕ) → lts.Need-mul-first-from (claims t) (given t) first-from.Post
-mul-first-from t c = omega arith
+slice-aggregate-low : (t : ℕ) → lts.Need-slice-aggregate-low (claims t) (given t) first-from.Post
+slice-aggregate-low t c =
+    let xs = c .before .before .before .before .before .args .s .now in
+    sym (length-take-le (length xs / 2) xs (omega arith))
+
+mul-high : (t : ℕ) → lts.Need-mul-high (claims t) (given t) first-from.Post
+mul-high t c = omega arith
+
+sub-high : (t : ℕ) → lts.Need-sub-high (claims t) (given t) first-from.Post
+sub-high t c = omega arith
+
+part-high-start : (t : ℕ) → lts.Need-part-high-start (claims t) (given t) first-from.Post
+part-high-start t c = omega arith
+
+part-high-end : (t : ℕ) → lts.Need-part-high-end (claims t) (given t) first-from.Post
+part-high-end t c = omega arith
 
 sub-first-from : (t : ℕ) → lts.Need-sub-first-from (claims t) (given t) first-from.Post
 sub-first-from t c = omega arith
 
-part-first-from-start : (t : ℕ) → lts.Need-part-first-from-start (claims t) (given t) first-from.Post
-part-first-from-start t c = omega arith
-
-part-first-from-end : (t : ℕ) → lts.Need-part-first-from-end (claims t) (given t) first-from.Post
-part-first-from-end t c = omega arith
-
-sub-first-from-2 : (t : ℕ) → lts.Need-sub-first-from-2 (claims t) (given t) first-from.Post
-sub-first-from-2 t c = omega arith
-
 first-from-requires : (t : ℕ) → lts.Need-first-from-requires (claims t) (given t) first-from.Post
 first-from-requires t c κs =
-    let s = c .before .before .before .before .before .before in
-    (omega arith, search-high (s .args .columns) (s .args .ones) (s .args .zeros) (s .args .w) (s .args .s .now) (c .before .before .before .before .if1 .left) (s .pre .1))
+    let s = c .before .before .before .before .before .before .before in
+    (omega arith, search-high (s .args .columns) (s .args .ones) (s .args .zeros) (s .args .w) (s .args .s .now) (c .before .before .before .before .before .if1 .left) (s .pre .1))
 
 mul-result : (t : ℕ) → lts.Need-mul-result (claims t) (given t) first-from.Post
 mul-result t c =
-    let s = c .before .before .before .before .before .before .before in
+    let s = c .before .before .before .before .before .before .before .before in
     let l : s .args .columns - 1 ≤ 16 = omega (arith, s .pre .1 .columns) in
     omega (arith, most-found (c .first-from .ensures) l)
 
 returns-3 : (t : ℕ) → lts.Need-returns-3 (claims t) (given t) first-from.Post
 returns-3 t c =
-    let s = c .before .before .before .before .before .before .before in
-    search-one (s .args .columns) (s .args .ones) (s .args .zeros) (s .args .w) (s .args .s .now) (c .before .before .before .before .before .if1 .left) (s .pre .1) (c .first-from .result) (c .before .before .if3 .taken) (c .first-from .ensures)
+    let s = c .before .before .before .before .before .before .before .before in
+    search-one (s .args .columns) (s .args .ones) (s .args .zeros) (s .args .w) (s .args .s .now) (c .before .before .before .before .before .before .if1 .left) (s .pre .1) (c .first-from .result) (c .before .if3 .taken) (c .first-from .ensures)
 
-slice-aggregate-first-from : (t : ℕ) → lts.Need-slice-aggregate-first-from (claims t) (given t) first-from.Post
-slice-aggregate-first-from t c =
-    let xs = c .before .before .before .before .before .before .args .s .now in
-    sym (length-take-le (length xs / 2) xs (omega arith))
-
-sub-first-from-3 : (t : ℕ) → lts.Need-sub-first-from-3 (claims t) (given t) first-from.Post
-sub-first-from-3 t c = omega arith
+sub-first-from-2 : (t : ℕ) → lts.Need-sub-first-from-2 (claims t) (given t) first-from.Post
+sub-first-from-2 t c = omega arith
 
 first-from-requires-2 : (t : ℕ) → lts.Need-first-from-requires-2 (claims t) (given t) first-from.Post
 first-from-requires-2 t c κs =
-    let s = c .before .before .before .before .before .before in
-    (omega arith, search-low (s .args .columns) (s .args .ones) (s .args .zeros) (s .args .w) (s .args .s .now) (c .before .before .before .before .if1 .left) (s .pre .1))
+    let s = c .before .before .before .before .before .before .before in
+    (omega arith, search-low (s .args .columns) (s .args .ones) (s .args .zeros) (s .args .w) (s .args .s .now) (c .before .before .before .before .before .if1 .left) (s .pre .1))
 
 mul-result-2 : (t : ℕ) → lts.Need-mul-result-2 (claims t) (given t) first-from.Post
 mul-result-2 t c =
-    let s = c .before .before .before .before .before .before .before .before in
+    let s = c .before .before .before .before .before .before .before .before .before in
     let l : s .args .columns - 1 ≤ 16 = omega (arith, s .pre .1 .columns) in
     omega (arith, most-found (c .before .first-from2 .ensures) l)
 
@@ -105,28 +105,18 @@ sub-result t c = omega arith
 
 returns-4 : (t : ℕ) → lts.Need-returns-4 (claims t) (given t) first-from.Post
 returns-4 t c =
-    let s = c .before .before .before .before .before .before .before .before in
-    search-found (s .args .columns) (s .args .ones) (s .args .zeros) (s .args .w) (s .args .s .now) (c .before .before .before .before .before .before .if1 .left) (s .pre .1) (c .before .first-from2 .result) (c .before .before .before .if3 .left) (c .if4 .taken) (c .before .first-from2 .ensures)
+    let s = c .before .before .before .before .before .before .before .before .before in
+    let r = c .before .first-from2 in
+    search-found (s .args .columns) (s .args .ones) (s .args .zeros) (s .args .w) (s .args .s .now) (c .before .before .before .before .before .before .before .if1 .left) (s .pre .1) (r .result) (c .before .before .if3 .left) (c .if4 .taken) (r .ensures)
 
 returns-5 : (t : ℕ) → lts.Need-returns-5 (claims t) (given t) first-from.Post
 returns-5 t c =
-    let s = c .before .before .before .before .before .before .before .before .before in
-    search-zero (s .args .columns) (s .args .ones) (s .args .zeros) (s .args .w) (s .args .s .now) (c .before .before .before .before .before .before .before .if1 .left) (s .pre .1) (c .before .before .first-from2 .result) (c .before .before .before .before .if3 .left) (omega arith) (c .if5 .taken) (c .before .before .first-from2 .ensures)
+    let s = c .before .before .before .before .before .before .before .before .before .before in
+    let r = c .before .before .first-from2 in
+    search-zero (s .args .columns) (s .args .ones) (s .args .zeros) (s .args .w) (s .args .s .now) (c .before .before .before .before .before .before .before .before .if1 .left) (s .pre .1) (r .result) (c .before .before .before .if3 .left) (omega arith) (c .if5 .taken) (r .ensures)
 
-mul-first-from-2 : (t : ℕ) → lts.Need-mul-first-from-2 (claims t) (given t) first-from.Post
-mul-first-from-2 t c = omega arith
-
-sub-first-from-4 : (t : ℕ) → lts.Need-sub-first-from-4 (claims t) (given t) first-from.Post
-sub-first-from-4 t c = omega arith
-
-part-first-from-start-2 : (t : ℕ) → lts.Need-part-first-from-start-2 (claims t) (given t) first-from.Post
-part-first-from-start-2 t c = omega arith
-
-part-first-from-end-2 : (t : ℕ) → lts.Need-part-first-from-end-2 (claims t) (given t) first-from.Post
-part-first-from-end-2 t c = omega arith
-
-sub-first-from-5 : (t : ℕ) → lts.Need-sub-first-from-5 (claims t) (given t) first-from.Post
-sub-first-from-5 t c = omega arith
+sub-first-from-3 : (t : ℕ) → lts.Need-sub-first-from-3 (claims t) (given t) first-from.Post
+sub-first-from-3 t c = omega arith
 
 first-from-requires-3 : (t : ℕ) → lts.Need-first-from-requires-3 (claims t) (given t) first-from.Post
 first-from-requires-3 t c κs =
@@ -142,7 +132,8 @@ mul-result-3 t c =
 returns-6 : (t : ℕ) → lts.Need-returns-6 (claims t) (given t) first-from.Post
 returns-6 t c =
     let s = c .before .before .before .before .before .before .before .before .before .before .before in
-    search-dash (s .args .columns) (s .args .ones) (s .args .zeros) (s .args .w) (s .args .s .now) (c .before .before .before .before .before .before .before .before .before .if1 .left) (s .pre .1) (c .before .before .before .before .first-from2 .result) (c .first-from3 .result) (c .before .before .before .before .before .before .if3 .left) (omega arith) (c .before .before .if5 .left) (c .before .before .before .before .first-from2 .ensures) (c .first-from3 .ensures)
+    let r = c .before .before .before .first-from2 in
+    search-dash (s .args .columns) (s .args .ones) (s .args .zeros) (s .args .w) (s .args .s .now) (c .before .before .before .before .before .before .before .before .before .if1 .left) (s .pre .1) (r .result) (c .first-from3 .result) (c .before .before .before .before .if3 .left) (omega arith) (c .before .if5 .left) (r .ensures) (c .first-from3 .ensures)
 
 pub +first-from-spec : {M : Type 1} → statement M
 +first-from-spec =
@@ -154,26 +145,22 @@ pub +first-from-spec : {M : Type 1} → statement M
     (returns t)
     (bare-requires t)
     (returns-2 t)
-    (mul-first-from t)
+    (slice-aggregate-low t)
+    (mul-high t)
+    (sub-high t)
+    (part-high-start t)
+    (part-high-end t)
     (sub-first-from t)
-    (part-first-from-start t)
-    (part-first-from-end t)
-    (sub-first-from-2 t)
     (first-from-requires t)
     (mul-result t)
     (returns-3 t)
-    (slice-aggregate-first-from t)
-    (sub-first-from-3 t)
+    (sub-first-from-2 t)
     (first-from-requires-2 t)
     (mul-result-2 t)
     (sub-result t)
     (returns-4 t)
     (returns-5 t)
-    (mul-first-from-2 t)
-    (sub-first-from-4 t)
-    (part-first-from-start-2 t)
-    (part-first-from-end-2 t)
-    (sub-first-from-5 t)
+    (sub-first-from-3 t)
     (first-from-requires-3 t)
     (mul-result-3 t)
     (returns-6 t))

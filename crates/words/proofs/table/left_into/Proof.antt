@@ -22,17 +22,17 @@ loop-holds c = so-far-none _ _
 mul-x : tie.Need-mul-x Inv-loop μ-loop
 mul-x c = omega arith
 
-shared-slice-read-x : tie.Need-shared-slice-read-x Inv-loop μ-loop
-shared-slice-read-x c = omega arith
+slice-read-x : tie.Need-slice-read-x Inv-loop μ-loop
+slice-read-x c = omega arith
+
+mul-y : tie.Need-mul-y Inv-loop μ-loop
+mul-y c = omega arith
+
+shared-slice-read-y : tie.Need-shared-slice-read-y Inv-loop μ-loop
+shared-slice-read-y c = omega arith
 
 mul-a : tie.Need-mul-a Inv-loop μ-loop
 mul-a c = omega arith
-
-slice-read-a : tie.Need-slice-read-a Inv-loop μ-loop
-slice-read-a c = omega arith
-
-mul-a-2 : tie.Need-mul-a-2 Inv-loop μ-loop
-mul-a-2 c = omega arith
 
 slice-write-a : tie.Need-slice-write-a Inv-loop μ-loop
 slice-write-a c = omega arith
@@ -66,10 +66,10 @@ left-into-spec =
     μ-loop
     loop-holds
     mul-x
-    shared-slice-read-x
+    slice-read-x
+    mul-y
+    shared-slice-read-y
     mul-a
-    slice-read-a
-    mul-a-2
     slice-write-a
     add-i
     loop-less

@@ -47,11 +47,21 @@ sub-side t c = omega arith
 side-requires : (t : ℕ) → lts.Need-side-requires (claims t) (given t) first-bit.Post
 side-requires t c κs = omega arith
 
-sub-first-bit : (t : ℕ) → lts.Need-sub-first-bit (claims t) (given t) first-bit.Post
-sub-first-bit t c = omega (arith, pow-pos (2 ^ (c .before .before .before .before .args .columns - 1)), c .side .ensures)
+sub-low : (t : ℕ) → lts.Need-sub-low (claims t) (given t) first-bit.Post
+sub-low t c =
+    omega (arith, pow-pos (2 ^ (c .before .before .before .before .args .columns - 1)), c .side .ensures)
 
-sub-first-bit-2 : (t : ℕ) → lts.Need-sub-first-bit-2 (claims t) (given t) first-bit.Post
-sub-first-bit-2 t c = omega arith
+cast-high : (t : ℕ) → lts.Need-cast-high (claims t) (given t) first-bit.Post
+cast-high t c = omega arith
+
+shr-high : (t : ℕ) → lts.Need-shr-high (claims t) (given t) first-bit.Post
+shr-high t c =
+    let m = c .before .before .before .before .args .columns - 1 in
+    let l : m < 6 = omega arith in
+    omega (arith, points-most m l, c .before .points .ensures)
+
+sub-first-bit : (t : ℕ) → lts.Need-sub-first-bit (claims t) (given t) first-bit.Post
+sub-first-bit t c = omega arith
 
 first-bit-requires : (t : ℕ) → lts.Need-first-bit-requires (claims t) (given t) first-bit.Post
 first-bit-requires t c κs = (omega arith, omega arith)
@@ -66,19 +76,14 @@ sub-result t c = omega arith
 
 returns-3 : (t : ℕ) → lts.Need-returns-3 (claims t) (given t) first-bit.Post
 returns-3 t c =
-    let a = c .before .before .before .before .before .before in
-    first-in-low (a .args .columns) (a .args .w) (c .before .before .side .result) (c .before .before .before .points .result) (omega arith) (a .pre .1) (c .before .before .side .ensures) (c .before .before .before .points .ensures) (c .before .first-bit .result) (c .before .first-bit .ensures) (c .if3 .taken)
+    let s = c .before .before .before .before .before .before in
+    let e = c .before .before .side in
+    let p = c .before .before .before .points in
+    first-in-low (s .args .columns) (s .args .w) (e .result) (p .result) (omega arith) (s .pre .1) (e .ensures) (p .ensures)
+    (c .before .first-bit .result) (c .before .first-bit .ensures) (c .if3 .taken)
 
-cast-first-bit : (t : ℕ) → lts.Need-cast-first-bit (claims t) (given t) first-bit.Post
-cast-first-bit t c = omega arith
-
-shr-first-bit : (t : ℕ) → lts.Need-shr-first-bit (claims t) (given t) first-bit.Post
-shr-first-bit t c =
-    let l : c .before .before .before .before .before .before .args .columns - 1 < 6 = omega arith in
-    omega (arith, points-most (c .before .before .before .before .before .before .args .columns - 1) l, c .before .before .before .points .ensures)
-
-sub-first-bit-3 : (t : ℕ) → lts.Need-sub-first-bit-3 (claims t) (given t) first-bit.Post
-sub-first-bit-3 t c = omega arith
+sub-first-bit-2 : (t : ℕ) → lts.Need-sub-first-bit-2 (claims t) (given t) first-bit.Post
+sub-first-bit-2 t c = omega arith
 
 first-bit-requires-2 : (t : ℕ) → lts.Need-first-bit-requires-2 (claims t) (given t) first-bit.Post
 first-bit-requires-2 t c κs = (omega arith, omega arith)
@@ -90,8 +95,11 @@ mul-result-2 t c =
 
 returns-4 : (t : ℕ) → lts.Need-returns-4 (claims t) (given t) first-bit.Post
 returns-4 t c =
-    let a = c .before .before .before .before .before .before .before in
-    first-in-high (a .args .columns) (a .args .w) (c .before .before .before .side .result) (c .before .before .before .before .points .result) (omega arith) (a .pre .1) (c .before .before .before .side .ensures) (c .before .before .before .before .points .ensures) (c .before .before .first-bit .result) (c .first-bit2 .result) (c .before .before .first-bit .ensures) (omega arith) (c .first-bit2 .ensures)
+    let s = c .before .before .before .before .before .before .before in
+    let e = c .before .before .before .side in
+    let p = c .before .before .before .before .points in
+    first-in-high (s .args .columns) (s .args .w) (e .result) (p .result) (omega arith) (s .pre .1) (e .ensures) (p .ensures)
+    (c .before .before .first-bit .result) (c .first-bit2 .result) (c .before .before .first-bit .ensures) (omega arith) (c .first-bit2 .ensures)
 
 pub +first-bit-spec : {M : Type 1} → statement M
 +first-bit-spec =
@@ -104,15 +112,15 @@ pub +first-bit-spec : {M : Type 1} → statement M
     (points-requires t)
     (sub-side t)
     (side-requires t)
+    (sub-low t)
+    (cast-high t)
+    (shr-high t)
     (sub-first-bit t)
-    (sub-first-bit-2 t)
     (first-bit-requires t)
     (mul-result t)
     (sub-result t)
     (returns-3 t)
-    (cast-first-bit t)
-    (shr-first-bit t)
-    (sub-first-bit-3 t)
+    (sub-first-bit-2 t)
     (first-bit-requires-2 t)
     (mul-result-2 t)
     (returns-4 t))
