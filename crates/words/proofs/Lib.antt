@@ -8,3 +8,6 @@ pub mod Flat
 pub mod Halves
 pub mod Finding
 pub mod Adding
+pub mod Answers
+pub mod Spare
+pub mod Turned
