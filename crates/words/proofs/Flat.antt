@@ -12,7 +12,7 @@ use lib.Seq.{drop-cons}
 use borrow.Author.Tests.{eq-eqb, ne-eqb}
 use Rattle.rule.specs.Func.{Fn, constant}
 use Rattle.words.specs.Word.{words, size, wordwise, noneMeets}
-use Rattle.words.specs.Contract.{ConstantWord, Lessened}
+use Rattle.words.specs.Contract.{ConstantWord, Lessened, Outside}
 use Rattle.words.proofs.Num.{lessWord}
 use Rattle.words.proofs.Tables.{words-less}
 use Rattle.words.proofs.Loops.{SoFar, so-far-end, so-far-joined, length-wordwise, getD-wordwise}
@@ -77,3 +77,20 @@ meets-later w xs i h e = none-step w xs i h ∙ ap (λ b. b && noneMeets w (drop
 pub meets-nothing : (w : ℕ) (xs : List ℕ) (i : ℕ) → length xs ≤ i → noneMeets w (drop i xs) ≡ true
 unfolding noneMeets
 meets-nothing w xs i h = ap (noneMeets w) (drop-of-length-le xs h)
+
+-- Every point less a table: one word less each word.
+pub outside-end : (m w : ℕ) (old : List ℕ) {now : List ℕ} {i : ℕ} → ConstantWord m true w → length old ≡ size m
+    → SoFar (λ k. lessWord w (getD old k 0)) old now i → length old ≤ i → Outside m old now
+outside-end m w old {now} c l s h =
+    let r : length (replicate (length old) w) ≡ length old = length-replicate (length old) w in
+    let e : now ≡ wordwise lessWord (replicate (length old) w) old =
+    so-far-end s h (wordwise lessWord (replicate (length old) w) old)
+    (length-wordwise lessWord (replicate (length old) w) old r ∙ r)
+    (λ k b.
+    let q : k < length (replicate (length old) w) = omega arith in
+    ap (λ x. lessWord x (getD old k 0)) (sym (each-word w old k b)) ∙
+    sym (getD-wordwise lessWord (replicate (length old) w) old k r q)) in
+    record {
+      table = λ f p.
+          e ∙ ap₂ (wordwise lessWord) (ap (λ n. replicate n w) l ∙ sym (c .table)) p ∙ sym (words-less m (constant m true) f);
+    }

@@ -11,3 +11,4 @@ pub mod Adding
 pub mod Answers
 pub mod Spare
 pub mod Turned
+pub mod Searches

@@ -1,7 +1,7 @@
 -- What the functions on words and tables ask and promise. Of a slice only its length is asked; what is promised of one
 -- is promised for every function whose table it holds.
 use mathlib.Core.Path.{_≡_}
-use mathlib.Core.Bool.{Bool}
+use mathlib.Core.Bool.{Bool, true}
 use mathlib.Core.List.{List}
 use Prim.Native.Nat.{ℕ, suc, _≤_, _^_}
 use lib.ListN.{length, replicate}
@@ -59,3 +59,7 @@ pub record Added (m o z : ℕ) (covered twice covered′ twice′ : List ℕ) : 
 -- The first table less the second.
 pub record Lessened (xs ys xs′ : List ℕ) : Type 0 where
   pub table : (m : ℕ) (f g : Fn m) → xs ≡ words m f → ys ≡ words m g → xs′ ≡ words m (less m f g)
+
+-- The table of all points less a table.
+pub record Outside (m : ℕ) (xs xs′ : List ℕ) : Type 0 where
+  pub table : (f : Fn m) → xs ≡ words m f → xs′ ≡ words m (less m (constant m true) f)

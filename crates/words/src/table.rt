@@ -4,7 +4,7 @@ ghost use lib.Bits.{bitAnd, bitOr};
 ghost use lib.ListN.{length, replicate};
 ghost use Rattle.rule.specs.Func.{constant};
 ghost use Rattle.words.specs.Word.{words, size, wordwise, noneMeets};
-ghost use Rattle.words.specs.Contract.{Lessened};
+ghost use Rattle.words.specs.Contract.{Lessened, Outside};
 use crate::word;
 
 // Makes a table that of a constant.
@@ -44,6 +44,20 @@ pub fn left_into(a: &mut [u64], b: &[u64])
         let x = a[i];
         let y = b[i];
         a[i] = y ^ (y & x);
+        i += 1;
+    }
+}
+
+// Makes a table that of the points outside its function.
+pub fn outside(s: &mut [u64], columns: u16)
+    requires { ⌜ length (now s) ≡ size columns ⌝ }
+    ensures { λ r. ⌜ Outside columns (now (s .entry)) (now (s .exit)) ⌝ }
+{
+    let w = word::constant_word(columns, true);
+    let mut i = 0;
+    while i < s.len() {
+        let x = s[i];
+        s[i] = w ^ (w & x);
         i += 1;
     }
 }
