@@ -1,17 +1,17 @@
 -- The addition of a cube to what is covered and to what is covered twice, step by step as the code goes: one word for every
 -- word, or the halves by the sign of the first column.
 use mathlib.Core.Path.{_≡_, refl, sym, ap, ap₂, _∙_}
-use mathlib.Core.Bool.{Bool, true, false, _&&_, _||_}
-use mathlib.Core.List.{List, [], _∷_, _++_}
+use mathlib.Core.Bool.{true, false}
+use mathlib.Core.List.{List, _++_}
 use mathlib.Core.Logic.{_⊎_, inl, inr}
-use Prim.Native.Nat.{ℕ, zero, suc, _+_, _-_, _/_, _%_, _<_, _≤_}
+use Prim.Native.Nat.{ℕ, suc, _-_, _/_, _%_, _<_, _≤_}
 use native.Mathlib.Omega.{arith}
 use lib.Bits.{bitAnd, bitOr}
 use lib.ListN.{length, take, drop, replicate}
 use Rattle.rule.specs.Func.{Fn, constant, joined, both, either}
 use Rattle.rule.specs.Point.{odd}
 use Rattle.rule.proofs.Bools.{clash}
-use Rattle.words.specs.Word.{words, size, cubeOf, plain, leaf, wordwise}
+use Rattle.words.specs.Word.{words, size, cubeOf, plain, wordwise}
 use Rattle.words.specs.Contract.{SizedBothWord, Added}
 use Rattle.words.proofs.Tables.{few, words-both, words-either}
 use Rattle.words.proofs.Least.{both-false, either-false, either-none}

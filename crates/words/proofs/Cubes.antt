@@ -1,18 +1,18 @@
 -- Laws of a cube that is given by its two halves: its function and its words, column by column.
-use mathlib.Core.Path.{_≡_, refl, sym, ap, ap₂, _∙_, subst}
+use mathlib.Core.Path.{_≡_, refl, sym, ap, ap₂, _∙_}
 use mathlib.Core.Bool.{Bool, true, false, cond, not, _&&_}
-use mathlib.Core.List.{List, [], _∷_, _++_}
+use mathlib.Core.List.{[], _∷_, _++_}
 use mathlib.Core.Logic.{_⊎_, inl, inr}
 use Prim.Native.Nat.{ℕ, zero, suc, _+_, _-_, _*_, _/_, _%_, _^_, _<_, _≤_}
 use native.Mathlib.Nat.{pow-suc}
 use native.Mathlib.Omega.{arith}
 use lib.Arith.{mod-mul}
 use lib.Bits.{bitAnd, and-mask}
-use lib.Dec.{ltb, eqb, lit≤}
-use lib.ListN.{length, replicate}
+use lib.Dec.{eqb, lit≤}
+use lib.ListN.{replicate}
 use lib.Pow.{pow-pos, pow-mono}
 use borrow.Author.Tests.{lt-ltb, le-ltb, eq-eqb, ne-eqb, eqb-true, eqb-false}
-use Rattle.rule.specs.Func.{Fn, constant}
+use Rattle.rule.specs.Func.{constant}
 use Rattle.rule.specs.Point.{odd}
 use Rattle.rule.specs.Cube.{cubeFn, under, leadSign, restSigns}
 use Rattle.rule.specs.Number.{signOf, signsFrom}

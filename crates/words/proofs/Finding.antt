@@ -1,9 +1,9 @@
 -- The search for the smallest point of a table that a cube covers, step by step as the code goes: a single word, nothing in any
 -- word, and the halves by the sign of the first column.
-use mathlib.Core.Path.{_≡_, refl, sym, ap, ap₂, _∙_, subst}
+use mathlib.Core.Path.{_≡_, refl, sym, ap, ap₂, _∙_}
 use mathlib.Core.Bool.{Bool, true, false, _&&_}
 use mathlib.Core.List.{List, [], _∷_}
-use Prim.Native.Nat.{ℕ, zero, suc, _+_, _-_, _*_, _/_, _%_, _^_, _<_, _≤_}
+use Prim.Native.Nat.{ℕ, suc, _-_, _*_, _/_, _%_, _^_, _<_, _≤_}
 use native.Mathlib.Nat.{pow-suc}
 use native.Mathlib.Omega.{arith}
 use lib.Bits.{bitAnd, and-comm}
@@ -14,10 +14,10 @@ use borrow.Author.Tests.{eqb-true}
 use Rattle.rule.specs.Func.{Fn, constant, joined, both}
 use Rattle.rule.specs.Point.{odd, smallest}
 use Rattle.rule.proofs.Bools.{and-left, and-right}
-use Rattle.words.specs.Word.{num, words, size, cubeOf, foundNumber, plain, leaf, noneMeets, wordwise}
+use Rattle.words.specs.Word.{words, size, cubeOf, foundNumber, plain, noneMeets, wordwise}
 use Rattle.words.specs.Contract.{SizedWord, FirstBit, FirstIn}
 use Rattle.words.proofs.Num.{num-both}
-use Rattle.words.proofs.Tables.{words-few, words-both, words-false, words-tell, length-words}
+use Rattle.words.proofs.Tables.{words-few, words-both, words-false, words-tell}
 use Rattle.words.proofs.Least.{none-found, found-in-low, found-in-high, both-false}
 use Rattle.words.proofs.Cubes.{cube-one, cube-zero, cube-dash, leaf-few, leaf-next, words-plain, is-odd, is-even}
 use Rattle.words.proofs.Halving.{by-suc}
@@ -43,11 +43,12 @@ none-met w (x ∷ xs) e =
     (and-comm w x ∙ eqb-true (bitAnd x w) 0 (and-left (eqb (bitAnd x w) 0) (noneMeets w xs) e))
     (none-met w xs (and-right (eqb (bitAnd x w) 0) (noneMeets w xs) e))
 
-pub nothing-met : (m o z w : ℕ) (xs : List ℕ) → SizedWord m o z w xs → (plain m o z && noneMeets w xs) ≡ true → FirstIn m o z xs 0
-nothing-met m o z w xs s e = record { bound = omega arith; found = found }
+pub nothing-met : (m o z w : ℕ) (xs : List ℕ) (t : Bool) → SizedWord m o z w xs → t ≡ (plain m o z && noneMeets w xs) → t ≡ true → FirstIn m o z xs 0
+nothing-met m o z w xs t s d y = record { bound = omega arith; found = found }
   where
     found : (f : Fn m) → xs ≡ words m f → 0 ≡ foundNumber (smallest m (both m (cubeOf m o z) f))
     found f p =
+        let e : (plain m o z && noneMeets w xs) ≡ true = sym d ∙ y in
         let a : words m (cubeOf m o z) ≡ replicate (length xs) w =
         words-plain m o z (and-left (plain m o z) (noneMeets w xs) e) ∙ ap₂ replicate (sym (s .long)) (sym (s .word)) in
         let b : words m (both m (cubeOf m o z) f) ≡ words m (constant m false) =

@@ -1,8 +1,8 @@
 -- What the loops over whole tables leave, said of the functions whose tables they were.
-use mathlib.Core.Path.{_≡_, refl, sym, ap, ap₂, _∙_}
+use mathlib.Core.Path.{_≡_, sym, ap, ap₂, _∙_}
 use mathlib.Core.Bool.{Bool, true, false, _&&_}
-use mathlib.Core.List.{List, [], _∷_}
-use Prim.Native.Nat.{ℕ, zero, suc, _+_, _<_, _≤_}
+use mathlib.Core.List.{List, _∷_}
+use Prim.Native.Nat.{ℕ, _+_, _<_, _≤_}
 use native.Mathlib.Numerals.{add-one}
 use native.Mathlib.Omega.{arith}
 use lib.Bits.{bitAnd, bitOr}
@@ -10,12 +10,12 @@ use lib.Dec.{eqb}
 use lib.ListN.{length, getD, drop, replicate, length-replicate, getD-replicate, drop-of-length-le}
 use lib.Seq.{drop-cons}
 use borrow.Author.Tests.{eq-eqb, ne-eqb}
-use Rattle.rule.specs.Func.{Fn, constant}
+use Rattle.rule.specs.Func.{constant}
 use Rattle.words.specs.Word.{words, size, wordwise, noneMeets}
 use Rattle.words.specs.Contract.{ConstantWord, Lessened, Outside}
 use Rattle.words.proofs.Num.{lessWord}
 use Rattle.words.proofs.Tables.{words-less}
-use Rattle.words.proofs.Loops.{SoFar, so-far-end, so-far-joined, length-wordwise, getD-wordwise}
+use Rattle.words.proofs.Loops.{SoFar, so-far-end, length-wordwise, getD-wordwise}
 
 -- A table filled with the word of a constant.
 pub filled : (m : ℕ) (b : Bool) (w : ℕ) {old now : List ℕ} {i : ℕ} → ConstantWord m b w → length old ≡ size m

@@ -1,19 +1,17 @@
 -- Laws of words as the code shifts and masks them: the number of points, the first number beyond them, the halves of a word.
 use mathlib.Core.Path.{_≡_, refl, sym, ap, ap₂, _∙_, subst}
 use mathlib.Core.Bool.{Bool, true, false}
-use mathlib.Core.List.{List, [], _∷_}
-use mathlib.Core.Option.{some, none}
 use Prim.Native.Nat.{ℕ, zero, suc, _+_, _-_, _*_, _/_, _%_, _^_, _<_, _≤_}
 use native.Mathlib.Nat.{pow-suc, add-zero}
 use native.Mathlib.Omega.{arith}
 use lib.Arith.{digits-lt}
 use lib.Bits.{bitAnd, bitOr, and-mask, or-shifted}
-use lib.Pow.{pow-mono, pow-pos, shl-exact}
+use lib.Pow.{pow-mono, shl-exact}
 use Rattle.rule.specs.Func.{Fn, constant}
 use Rattle.rule.specs.Point.{bit, odd, pointNumber, smallest}
-use Rattle.words.specs.Word.{num, words, size, cubeOf, foundNumber, leaf}
+use Rattle.words.specs.Word.{num, cubeOf, foundNumber, leaf}
 use Rattle.words.specs.Contract.{ConstantWord, Packed, FirstBit}
-use Rattle.words.proofs.Num.{num-below, num-low, num-high, num-false, num-true, num-zero, num-fits, square}
+use Rattle.words.proofs.Num.{num-below, num-low, num-high, num-false, num-true, num-zero, square}
 use Rattle.words.proofs.Tables.{words-constant}
 use Rattle.words.proofs.Least.{none-found, found-in-low, found-in-high}
 use Rattle.words.proofs.Cubes.{cube-one, cube-zero, cube-dash, leaf-few, leaf-next, is-odd, is-even}

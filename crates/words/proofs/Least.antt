@@ -1,10 +1,9 @@
 -- Laws of the search for the smallest point: through the halves of a function, as the numbers that the code answers; and
 -- functions joined with a constant.
-use mathlib.Core.Path.{_≡_, refl, sym, ap, ap₂, _∙_}
-use mathlib.Core.Bool.{Bool, true, false, _&&_, _||_}
-use mathlib.Core.List.{List, [], _∷_}
+use mathlib.Core.Path.{_≡_, refl, ap, _∙_}
+use mathlib.Core.Bool.{true, false}
 use mathlib.Core.Option.{Option, some, none}
-use Prim.Native.Nat.{ℕ, zero, suc, _+_, _-_, _*_, _^_, _<_, _≤_}
+use Prim.Native.Nat.{ℕ, zero, suc, _-_, _*_}
 use native.Mathlib.Omega.{arith}
 use Rattle.rule.specs.Func.{Fn, constant, joined, both, either}
 use Rattle.rule.specs.Point.{Pt, bit, pointNumber, orElse, after, smallest}

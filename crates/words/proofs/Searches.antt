@@ -1,12 +1,12 @@
 -- The checker's four faults as searches in tables: what the answer r of each search says of the list.
-use mathlib.Core.Path.{_≡_, refl, sym, ap, ap₂, _∙_}
+use mathlib.Core.Path.{_≡_, sym, ap, _∙_}
 use mathlib.Core.Bool.{true}
-use mathlib.Core.List.{List, [], _∷_}
+use mathlib.Core.List.{List, _∷_}
 use Prim.Native.Nat.{ℕ, _^_, _<_}
 use lib.Bits.{bitXor}
 use lib.Dec.{eqb}
 use lib.ListN.{length}
-use Rattle.rule.specs.Func.{Fn, constant, both, either, less, within}
+use Rattle.rule.specs.Func.{Fn, constant, both, less, within}
 use Rattle.rule.specs.Point.{smallest}
 use Rattle.rule.specs.Cube.{Cube, cubeFn, covered, hasLiteral, withoutLiteral, cubeAt, without}
 use Rattle.rule.specs.Number.{signsFrom, apart}

@@ -1,17 +1,17 @@
 -- Which cube can go: one is spare exactly if it alone covers no on point, that is, if nothing of it is found among the on
 -- points that are not covered twice.
 use mathlib.Core.Path.{_≡_, refl, sym, ap, ap₂, _∙_}
-use mathlib.Core.Bool.{Bool, true, false, not, _&&_, _||_}
+use mathlib.Core.Bool.{Bool, true, false, _&&_, _||_}
 use mathlib.Core.List.{List, [], _∷_}
 use mathlib.Core.Logic.{_⊎_, inl, inr}
-use Prim.Native.Nat.{ℕ, zero, suc, _<_}
+use Prim.Native.Nat.{ℕ, _<_}
 use lib.Dec.{eqb}
 use lib.ListN.{length}
-use Rattle.rule.specs.Func.{Fn, constant, both, either, less, always, within}
+use Rattle.rule.specs.Func.{Fn, both, less, always, within}
 use Rattle.rule.specs.Point.{Pt, at, smallest}
 use Rattle.rule.specs.Cube.{Cube, covers, coversAny, cubeFn, covered, cubeAt, without}
-use Rattle.rule.proofs.Bools.{clash, and-left, and-right, and-intro, or-true, or-left, or-right, must-be-false, which}
-use Rattle.rule.proofs.Func.{at-constant, at-both, at-either, at-less, in-less, less-in, less-out, within-at, at-within, always-at, at-always}
+use Rattle.rule.proofs.Bools.{clash, and-left, and-right, and-intro, or-true, or-left, or-right, must-be-false}
+use Rattle.rule.proofs.Func.{at-constant, at-both, at-either, in-less, less-in, less-out, within-at, at-within, always-at, at-always}
 use Rattle.rule.proofs.Cubes.{at-cubeFn, at-covered}
 use Rattle.rule.proofs.Picks.{Picks, here, there, picks-at, picks-covers}
 use Rattle.words.specs.Word.{foundNumber}

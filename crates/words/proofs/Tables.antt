@@ -1,7 +1,7 @@
 -- Laws of tables: how many words one has, the table of both halves, of joined functions and of constants, and that a table
 -- tells its function.
-use mathlib.Core.Path.{_≡_, refl, sym, ap, ap₂, _∙_, subst}
-use mathlib.Core.Bool.{Bool, true, false, cond, _&&_, _||_}
+use mathlib.Core.Path.{_≡_, refl, sym, ap, ap₂, _∙_}
+use mathlib.Core.Bool.{Bool, true, false, cond}
 use mathlib.Core.List.{List, [], _∷_, _++_}
 use mathlib.Core.Logic.{_⊎_, inl, inr}
 use Prim.Native.Nat.{ℕ, zero, suc, _+_, _-_, _*_, _^_, _<_, _≤_}
@@ -9,9 +9,9 @@ use native.Mathlib.Nat.{pow-suc}
 use native.Mathlib.Omega.{arith}
 use lib.Bits.{bitAnd, bitOr}
 use lib.Dec.{ltb, lit≤}
-use lib.ListN.{length, take, drop, replicate, length-append, length-replicate, replicate-append-replicate}
+use lib.ListN.{length, take, drop, replicate, length-append, replicate-append-replicate}
 use lib.Seq.{take-at, drop-at}
-use borrow.Author.Tests.{lt-ltb, le-ltb}
+use borrow.Author.Tests.{lt-ltb, le-ltb, ltb-true, ltb-false}
 use Rattle.rule.specs.Func.{Fn, constant, joined, both, either, less}
 use Rattle.words.specs.Word.{num, words, size, wordwise}
 use Rattle.words.proofs.Num.{Lifts, num-joined, num-tells, and-lifts, or-lifts, less-lifts, lessWord, num-false}
@@ -21,8 +21,8 @@ pub few : (m : ℕ) → (m < 6) ⊎ (6 ≤ m)
 few m = go (ltb m 6) refl
   where
     go : (b : Bool) → ltb m 6 ≡ b → (m < 6) ⊎ (6 ≤ m)
-    go true e = inl (borrow.Author.Tests.ltb-true m 6 e)
-    go false e = inr (borrow.Author.Tests.ltb-false m 6 e)
+    go true e = inl (ltb-true m 6 e)
+    go false e = inr (ltb-false m 6 e)
 
 pub words-few : (m : ℕ) (f : Fn m) → m ≤ 6 → words m f ≡ num m f ∷ []
 unfolding words

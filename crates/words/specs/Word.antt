@@ -1,7 +1,7 @@
 -- Truth tables on words: a word is the number computed from a function of at most six columns, 64 points to a word, and a
 -- table is the list of words computed from a function. The half for 0 in the first column comes first, in the lower bits
 -- of a word and in the earlier words of a table, so the order of points is the order of words and of bits.
-use mathlib.Core.Bool.{Bool, true, false, cond, not, _&&_}
+use mathlib.Core.Bool.{Bool, true, cond, not, _&&_}
 use mathlib.Core.List.{List, [], _∷_, _++_}
 use mathlib.Core.Option.{Option, some, none}
 use Prim.Native.Nat.{ℕ, zero, suc, _+_, _-_, _*_, _/_, _^_}

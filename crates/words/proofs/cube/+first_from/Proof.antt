@@ -48,7 +48,7 @@ bare-requires t c κs = c .before .before .pre .1 .columns
 returns-2 : (t : ℕ) → lts.Need-returns-2 (claims t) (given t) first-from.Post
 returns-2 t c =
     let s = c .before .before .before .before in
-    nothing-met (s .args .columns) (s .args .ones) (s .args .zeros) (s .args .w) (s .args .s .now) (s .pre .1) (sym (c .before .bare .ensures) ∙ c .if2 .taken)
+    nothing-met (s .args .columns) (s .args .ones) (s .args .zeros) (s .args .w) (s .args .s .now) (c .before .bare .result) (s .pre .1) (c .before .bare .ensures) (c .if2 .taken)
 
 slice-aggregate-low : (t : ℕ) → lts.Need-slice-aggregate-low (claims t) (given t) first-from.Post
 slice-aggregate-low t c =

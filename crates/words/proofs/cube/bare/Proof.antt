@@ -3,7 +3,7 @@ use mathlib.Core.Path.{sym, ap, _∙_}
 use mathlib.Core.Bool.{_&&_}
 use borrow.Author.Needs.{needs}
 use Rattle.rule.proofs.Bools.{not-is-true, not-is-false}
-use Rattle.words.specs.Word.{plain, noneMeets}
+use Rattle.words.specs.Word.{noneMeets}
 use Rattle.words.proofs.cube.bare.Statement.{statement}
 use Rattle.words.proofs.cube.bare.Tie as tie
 

@@ -4,7 +4,7 @@ use native.Mathlib.Omega.{arith}
 use lib.Pow.{pow-pos}
 use borrow.Fn.Kinds.{In}
 use borrow.Fn.PlainCycle.{Measures, is, falls, and}
-use mathlib.Core.Path.{_≡_, subst⁻¹}
+use mathlib.Core.Path.{subst⁻¹}
 use Rattle.words.specs.Contract.{FirstBit}
 use Rattle.words.proofs.Halving.{points-most, no-bit, one-bit, first-in-low, first-in-high, found-most}
 use Rattle.words.proofs.word.first_bit.Reads as first-bit
