@@ -4,11 +4,13 @@ use mathlib.Core.Path.{_≡_, refl, sym, ap, ap₂, _∙_}
 use mathlib.Core.Bool.{Bool, true, false, not, _&&_, _||_, false≢true}
 use mathlib.Core.List.{[], _∷_}
 use mathlib.Core.Logic.{_⊎_, inl, inr}
-use Prim.Native.Nat.{ℕ, zero, suc, _+_, _*_, _/_, _%_, _^_}
+use Prim.Native.Nat.{ℕ, zero, suc, _+_, _*_, _/_, _%_, _^_, _<_}
 use native.Mathlib.Nat.{pow-suc}
+use native.Mathlib.Numerals.{one-add}
 use native.Mathlib.Omega.{arith}
 use lib.Bits.{bitXor, differ, xor-step, xor-zero-r}
 use lib.Dec.{eqb}
+use lib.Pow.{shr-shr}
 use borrow.Author.Tests.{eq-eqb, ne-eqb}
 use Rattle.rule.specs.Func.{Fn, less, within}
 use Rattle.rule.specs.Point.{Pt, lead, rest, at, odd, smallest}
@@ -125,3 +127,23 @@ turned-number (suc m) (suc k) o z e a =
     ap₂ _∷_ (ap₂ signOf (odd-kept k o) (odd-kept k z))
     (ap₂ (signsFrom m) (half-kept k o) (half-kept k z) ∙
     turned-number m k (o / 2) (z / 2) e (and-right (not (odd o && odd z)) (apart m (o / 2) (z / 2)) a))
+
+-- Whether a column has a literal, by its bits in the two halves.
+literal-by-bits : (o z : Bool) → isLiteral (signOf o z) ≡ (o || z)
+unfolding signOf isLiteral
+literal-by-bits true z = refl
+literal-by-bits false true = refl
+literal-by-bits false false = refl
+
+later-bit : (k x : ℕ) → odd (x / 2 / 2 ^ k) ≡ odd (x / 2 ^ suc k)
+later-bit k x = ap odd (shr-shr x 1 k ∙ ap (λ n. x / 2 ^ n) (one-add k))
+
+pub literal-bits : (m k o z : ℕ) → k < m → hasLiteral (signsFrom m o z) k ≡ (odd (o / 2 ^ k) || odd (z / 2 ^ k))
+unfolding signsFrom hasLiteral
+literal-bits zero k o z h = let e : ⊥ = omega arith in absurd e
+literal-bits (suc m) zero o z h =
+    let a : o ≡ o / 1 = omega arith in
+    let b : z ≡ z / 1 = omega arith in
+    literal-by-bits (odd o) (odd z) ∙ ap₂ (λ x y. odd x || odd y) a b
+literal-bits (suc m) (suc k) o z h =
+    literal-bits m k (o / 2) (z / 2) (omega arith) ∙ ap₂ _||_ (later-bit k o) (later-bit k z)
