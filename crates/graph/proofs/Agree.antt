@@ -1,17 +1,16 @@
 -- What records past those in use do not change: two tables that agree on the first c records give the references into
 -- these the same halves and functions, and keep the table's rule alike.
-use mathlib.Core.Path.{_≡_, refl, sym, ap, _∙_, subst, subst⁻¹}
+use mathlib.Core.Path.{_≡_, refl, sym, ap, _∙_, subst⁻¹}
 use mathlib.Core.Bool.{Bool, true, false, cond, _&&_}
-use mathlib.Core.List.{List, [], _∷_, _++_}
-use mathlib.Core.Logic.{_⊎_, inl, inr, ⊎-elim}
+use mathlib.Core.List.{[], _∷_, _++_}
+use mathlib.Core.Logic.{inl, inr, ⊎-elim}
 use Prim.Native.Nat.{ℕ, zero, suc, _+_, _-_, _<_, _≤_}
 use native.Mathlib.Omega.{arith}
 use lib.Dec.{eqb}
-use Rattle.rule.specs.Func.{Fn}
-use Rattle.rule.specs.Nodes.{Tree, tree}
+use Rattle.rule.specs.Nodes.{tree}
 use Rattle.rule.proofs.Bools.{and-left, and-right, and-intro}
 use Rattle.graph.specs.Table.{Table, halfOf, fnOf, refers, isRecord, numberAt, goodRecord, goodTable, recordTree, functions, Agree}
-use Rattle.graph.proofs.Tests.{InUse, refers-is, is-refers, record-refers, half-constant, Good, record-good, good-record}
+use Rattle.graph.proofs.Tests.{refers-is, is-refers, record-refers, Good, record-good, good-record}
 use Rattle.graph.proofs.Numbers.{Idle, AtLevel, idle-or-at, low-half, high-half, half-refers}
 
 pub agree-fewer : {T : Table} {T′ : Table} (c : ℕ) (d : ℕ) → d ≤ c → Agree T T′ c → Agree T T′ d

@@ -1,14 +1,13 @@
 -- An operation of two numbers, one law for each call and each way out: a known number, a column on which neither number
 -- depends, a half that does not fit, and the node of both halves.
-use mathlib.Core.Path.{_≡_, refl, sym, ap, _∙_, subst, subst⁻¹}
+use mathlib.Core.Path.{_≡_, subst, subst⁻¹}
 use mathlib.Core.Bool.{Bool, true, false}
 use mathlib.Core.List.{List}
 use Prim.Native.Nat.{ℕ, zero, suc, _+_, _-_, _<_, _≤_}
 use native.Mathlib.Omega.{arith}
-use lib.ListN.{length}
 use Rattle.rule.specs.Func.{Fn, joined}
-use Rattle.graph.specs.Table.{Table, tableOf, halfOf, fnOf, refers, nodeFn}
-use Rattle.graph.specs.Sound.{Sound, RootedTwice}
+use Rattle.graph.specs.Table.{tableOf, halfOf, fnOf, refers, nodeFn}
+use Rattle.graph.specs.Sound.{RootedTwice}
 use Rattle.graph.specs.Operation.{opOf, Right, TerminalOf}
 use Rattle.graph.specs.Built.{Halves, Built, Lacking, MadeOf}
 use Rattle.graph.specs.declared.operation.Op.{Op}

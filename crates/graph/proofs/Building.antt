@@ -2,24 +2,24 @@
 -- and what two results make.
 use mathlib.Core.Path.{_≡_, refl, sym, ap, _∙_, subst, subst⁻¹}
 use mathlib.Core.Bool.{Bool, true, false}
-use mathlib.Core.List.{List, [], _∷_, _++_}
-use mathlib.Core.Logic.{_⊎_, inl, inr, ⊎-elim}
-use Prim.Native.Nat.{ℕ, zero, suc, _+_, _-_, _<_, _≤_}
+use mathlib.Core.List.{List, _++_}
+use mathlib.Core.Logic.{⊎-elim}
+use Prim.Native.Nat.{ℕ, suc, _+_, _<_, _≤_}
 use native.Mathlib.Omega.{arith}
 use lib.ListN.{length}
 use Rattle.rule.specs.Func.{Fn, same}
-use Rattle.rule.specs.Nodes.{Tree, tree, own, nodes, has, add, addAll}
+use Rattle.rule.specs.Nodes.{Tree, tree, own, nodes, addAll}
 use Rattle.rule.proofs.Trees.{same-as-itself}
 use Rattle.rule.proofs.Sets.{AllIn, all-present-add-nothing, adding-again-adds-nothing, addAll-append}
 use Rattle.rule.proofs.Growth.{more-no-shorter}
-use Rattle.rule.proofs.Nodes.{idle-adds-the-half's, halves-present-adds-itself}
-use Rattle.graph.specs.Table.{Table, tableOf, halfOf, fnOf, refers, goodTable, functions, nodeFn, Agree}
+use Rattle.rule.proofs.Nodes.{idle-adds-the-half's}
+use Rattle.graph.specs.Table.{Table, tableOf, halfOf, fnOf, refers, functions, nodeFn, Agree}
 use Rattle.graph.specs.Sound.{Sound, Sized}
 use Rattle.graph.specs.Built.{Built, Lacking, MadeOf}
 use Rattle.graph.specs.declared.build.Made.{Made}
 use Rattle.graph.specs.declared.build.Made.the-variants.{Done, Full}
-use Rattle.graph.proofs.Tests.{refers-is, refers-wider, InUse}
-use Rattle.graph.proofs.Numbers.{Idle, AtLevel, idle-or-at}
+use Rattle.graph.proofs.Tests.{refers-is, refers-wider}
+use Rattle.graph.proofs.Numbers.{AtLevel, idle-or-at}
 use Rattle.graph.proofs.Agree.{agree-refers, agree-through, agree-fn}
 use Rattle.graph.proofs.Records.{nodes-in-use}
 

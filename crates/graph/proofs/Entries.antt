@@ -11,7 +11,6 @@ use lib.Dec.{eqb, ltb, leb}
 use lib.ListN.{length}
 use borrow.Author.Tests.{ltb-true, ltb-false, ne-eqb, le-leb, lt-leb}
 use Rattle.rule.specs.Func.{Fn, constant, joined}
-use Rattle.rule.specs.Point.{at}
 use Rattle.rule.specs.Nodes.{nodes, addAll}
 use Rattle.rule.specs.Refusal.{Condition, firstBroken, outOfRange, nodesLack}
 use Rattle.rule.proofs.Bools.{and-intro, and-false-r, which}

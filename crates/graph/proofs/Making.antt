@@ -1,21 +1,19 @@
 -- Making a node, one law for each way out: its halves are equal, it is there, there is no room, it is put at the end.
-use mathlib.Core.Path.{_≡_, refl, sym, ap, _∙_, subst, subst⁻¹}
-use mathlib.Core.Bool.{Bool, true, false}
+use mathlib.Core.Path.{_≡_, refl, sym, ap, _∙_, subst⁻¹}
+use mathlib.Core.Bool.{false}
 use mathlib.Core.List.{List, [], _∷_, _++_}
-use Prim.Native.Nat.{ℕ, zero, suc, _+_, _<_, _≤_}
-use native.Mathlib.Nat.{lt-irrefl}
+use Prim.Native.Nat.{ℕ, suc, _+_, _<_}
 use native.Mathlib.Numerals.{add-one}
 use native.Mathlib.Omega.{arith}
-use lib.ListN.{length, getD, set, length-set, length-append}
+use lib.ListN.{length, set, length-set, length-append}
 use lib.Seq.{getD-set-same, getD-set-other}
-use Rattle.rule.specs.Func.{Fn, same}
-use Rattle.rule.specs.Nodes.{Tree, tree, nodes, has, add, addAll}
+use Rattle.rule.specs.Func.{same}
+use Rattle.rule.specs.Nodes.{tree, nodes, addAll}
 use Rattle.rule.proofs.Bools.{must-be-false}
 use Rattle.rule.proofs.Trees.{same-equal}
 use Rattle.rule.proofs.Sets.{absent-goes-last}
 use Rattle.rule.proofs.Nodes.{halves-present-adds-itself}
-use Rattle.graph.specs.Table.{Table, tableOf, fnOf, refers, numberAt, functions, nodeFn, Agree}
-use Rattle.graph.specs.Sound.{Sound, Sized}
+use Rattle.graph.specs.Table.{Table, tableOf, fnOf, numberAt, functions, nodeFn, Agree}
 use Rattle.graph.specs.Built.{Halves, Built, Lacking}
 use Rattle.graph.proofs.Tests.{IsRecord, refers-wider, record-refers, number-found}
 use Rattle.graph.proofs.Numbers.{equal-numbers}

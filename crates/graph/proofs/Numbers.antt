@@ -1,16 +1,16 @@
 -- Numbers and their functions: the halves of a reference, constants, what a table's later records do not change, and
 -- that equal numbers mean equal functions, and the reverse.
 use mathlib.Core.Path.{_≡_, refl, sym, ap, _∙_, subst, subst⁻¹}
-use mathlib.Core.Bool.{Bool, true, false, not}
+use mathlib.Core.Bool.{Bool, true, false}
 use mathlib.Core.Logic.{_⊎_, inl, inr, ⊎-elim, _↔_}
-use Prim.Native.Nat.{ℕ, zero, suc, _+_, _-_, _<_, _≤_}
+use Prim.Native.Nat.{ℕ, zero, suc, _+_, _<_}
 use native.Mathlib.Omega.{arith}
-use lib.Dec.{eqb, ltb}
-use borrow.Author.Tests.{eqb-true, eqb-false, eq-eqb, ne-eqb}
-use Rattle.rule.specs.Func.{Fn, constant}
-use Rattle.rule.proofs.Bools.{which, clash}
-use Rattle.graph.specs.Table.{Table, halfOf, fnOf, refers, isRecord, numberAt, goodTable}
-use Rattle.graph.proofs.Tests.{InUse, refers-is, is-refers, refers-wider, constant-refers, record-refers, half-constant, half-other, half-low, half-high, Good, good-at, IsRecord, record-is, number-missing}
+use lib.Dec.{eqb}
+use borrow.Author.Tests.{eqb-true, eqb-false}
+use Rattle.rule.specs.Func.{constant}
+use Rattle.rule.proofs.Bools.{which}
+use Rattle.graph.specs.Table.{Table, halfOf, fnOf, refers, goodTable}
+use Rattle.graph.proofs.Tests.{InUse, refers-is, refers-wider, constant-refers, record-refers, half-constant, half-other, half-low, half-high, good-at, IsRecord, record-is, number-missing}
 
 -- A number of a record in use of level k.
 pub record AtLevel (T : Table) (c : ℕ) (k : ℕ) (x : ℕ) : Type 0 where

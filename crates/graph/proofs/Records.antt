@@ -1,22 +1,22 @@
 -- The functions of the records: every number in use has its nodes among them, a node that the look-up misses is not
 -- among them, and a record put at the end adds just its own function.
-use mathlib.Core.Path.{_≡_, refl, sym, ap, _∙_, subst, subst⁻¹}
+use mathlib.Core.Path.{_≡_, refl, sym, ap, _∙_, subst⁻¹}
 use mathlib.Core.Bool.{Bool, true, false, _||_}
 use mathlib.Core.List.{List, [], _∷_, _++_}
 use mathlib.Core.Logic.{_⊎_, inl, inr, ⊎-elim}
-use Prim.Native.Nat.{ℕ, zero, suc, _+_, _-_, _<_, _≤_}
+use Prim.Native.Nat.{ℕ, zero, suc, _+_, _-_, _<_}
 use native.Mathlib.Nat.{not-suc-le-zero}
 use native.Mathlib.Omega.{arith}
 use lib.Dec.{eqb}
 use lib.ListN.{length, length-append}
 use borrow.Author.Tests.{eqb-true, eqb-false}
 use Rattle.rule.specs.Func.{Fn, same}
-use Rattle.rule.specs.Nodes.{Tree, tree, own, nodes, has, add, addAll, sameTree}
-use Rattle.rule.proofs.Bools.{and-left, and-right, and-intro, or-left, or-right, or-true, clash, which, must-be-false}
+use Rattle.rule.specs.Nodes.{Tree, tree, own, nodes, has, sameTree}
+use Rattle.rule.proofs.Bools.{and-intro, or-left, or-right, or-true, clash, which, must-be-false}
 use Rattle.rule.proofs.Trees.{same-trees-equal, tree-same-as-itself, same-as-itself, tree-values, tree-columns}
-use Rattle.rule.proofs.Sets.{AllIn, has-last, all-in-none, all-in-one, all-in-append, absent-goes-last}
-use Rattle.graph.specs.Table.{Table, halfOf, fnOf, refers, isRecord, numberAt, goodRecord, goodTable, recordTree, functions, nodeFn, Agree}
-use Rattle.graph.proofs.Tests.{IsRecord, refers-wider, record-refers, Good, good-at, good-record, record-is, number-missing, half-low, half-high}
+use Rattle.rule.proofs.Sets.{AllIn, has-last, all-in-none, all-in-one, all-in-append}
+use Rattle.graph.specs.Table.{Table, halfOf, fnOf, refers, numberAt, goodRecord, goodTable, recordTree, functions, nodeFn, Agree}
+use Rattle.graph.proofs.Tests.{IsRecord, refers-wider, record-refers, good-at, good-record, record-is, number-missing, half-low, half-high}
 use Rattle.graph.proofs.Numbers.{Idle, AtLevel, idle-or-at, half-refers, equal-numbers}
 use Rattle.graph.proofs.Agree.{agree-refers, agree-fn, agree-number, agree-good, agree-functions}
 

@@ -2,7 +2,7 @@
 use mathlib.Core.Path.{_≡_}
 use mathlib.Core.Bool.{Bool, true, _&&_, _||_}
 use Prim.Native.Nat.{ℕ, _<_}
-use Rattle.rule.specs.Func.{Fn, joined, butNot}
+use Rattle.rule.specs.Func.{joined, butNot}
 use Rattle.graph.specs.Table.{Table, fnOf, refers}
 use Rattle.graph.specs.declared.operation.Op.{Op}
 use Rattle.graph.specs.declared.operation.Op.the-variants.{And, Or, Difference}

@@ -1,10 +1,10 @@
 -- What the inner functions ask of a table in three slices.
 use mathlib.Core.Path.{_≡_}
-use mathlib.Core.Bool.{Bool, true}
+use mathlib.Core.Bool.{true}
 use mathlib.Core.List.{List}
 use Prim.Native.Nat.{ℕ, _+_, _<_, _≤_}
 use lib.ListN.{length}
-use Rattle.graph.specs.Table.{Table, tableOf, refers, goodTable}
+use Rattle.graph.specs.Table.{tableOf, refers, goodTable}
 
 -- Three slices of one length, of at most 4,096 records, with a count that the length holds.
 pub record Sized (c : ℕ) (v : List ℕ) (l : List ℕ) (h : List ℕ) : Type 0 where

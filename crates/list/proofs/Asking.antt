@@ -1,20 +1,19 @@
 -- What the calls of a step ask, and what is left when one of them does not fit.
-use mathlib.Core.Path.{_≡_, refl, sym, ap, _∙_, subst, subst⁻¹}
+use mathlib.Core.Path.{_≡_, ap, _∙_, subst, subst⁻¹}
 use mathlib.Core.Bool.{true}
-use mathlib.Core.List.{List, [], _∷_, _++_, append-assoc}
-use Prim.Native.Nat.{ℕ, zero, suc, _+_, _-_, _*_, _^_, _<_, _≤_}
+use mathlib.Core.List.{List, _++_}
+use Prim.Native.Nat.{ℕ, suc, _+_, _*_, _^_, _≤_}
 use native.Mathlib.Nat.{pow-succ', pow-le-pow-right}
 use native.Mathlib.Omega.{arith}
 use lib.ListN.{length}
-use lib.Seq.{sets, length-sets}
+use lib.Seq.{length-sets}
 use Rattle.rule.specs.Func.{Fn, within}
-use Rattle.rule.specs.Nodes.{Tree, nodes, named}
+use Rattle.rule.specs.Nodes.{nodes}
 use Rattle.rule.specs.Cube.{sign0, sign1}
 use Rattle.rule.specs.Rule.{P0, P1, G0, G1, R0, R1, R0orR1, U0andU1, listA, listB, put, listOf}
 use Rattle.rule.proofs.Cover.{list-covers, within-A, within-B, within-C}
-use Rattle.graph.specs.Sound.{Sound}
-use Rattle.list.specs.Run.{Run, Short, Names}
-use Rattle.list.specs.Generating.{numbersUnder, namedKept, namedA, namedB, namedRest, namedC, KeptDone, SixRoots, namedLeft, RestOf, Listable, Expandable, ListsFull, ListedFull}
+use Rattle.list.specs.Run.{Short}
+use Rattle.list.specs.Generating.{numbersUnder, namedA, namedB, namedRest, namedC, KeptDone, SixRoots, namedLeft, RestOf, Listable, Expandable, ListsFull, ListedFull}
 use Rattle.list.specs.declared.run.Both.{Both}
 use Rattle.list.specs.declared.run.Both.the-variants as both
 use Rattle.list.proofs.Runs.{run-short, short-more}

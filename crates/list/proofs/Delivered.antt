@@ -1,8 +1,7 @@
 -- What the generator delivers: the verdict on it is accept; and any two answers that its contract allows are equal.
-use mathlib.Core.Path.{_≡_, refl, sym, ap, _∙_, subst}
-use mathlib.Core.Bool.{true}
-use mathlib.Core.List.{List, [], _∷_, _++_}
-use Prim.Native.Nat.{ℕ, zero, suc, _≤_}
+use mathlib.Core.Path.{_≡_, refl, sym, ap, _∙_}
+use mathlib.Core.List.{List}
+use Prim.Native.Nat.{ℕ, zero, suc}
 use native.Mathlib.Omega.{arith}
 use lib.ListN.{length, take}
 use lib.Seq.{take-append-seam}
@@ -11,7 +10,7 @@ use Rattle.rule.specs.Verdict.{accept, verdictNumbers}
 use Rattle.rule.proofs.Delivered.{accepts-numbers}
 use Rattle.list.specs.Entry.{lower, upper, theList, inputConditions, roomConditions, refusal, answerFor, changesNothing, roomLeft, Generates}
 use Rattle.list.specs.declared.entry.Generated.{Generated}
-use Rattle.list.specs.declared.entry.Generated.the-variants.{Done, Refused}
+use Rattle.list.specs.declared.entry.Generated.the-variants.{Done}
 use Rattle.list.proofs.Entering.{before-kept, table-good, inside-kept}
 
 module _ (n : ℕ) (c : ℕ) (v : List ℕ) (l : List ℕ) (h : List ℕ) (a : ℕ) (b : ℕ) (room : List ℕ) where

@@ -7,24 +7,23 @@ use Prim.Native.Nat.{ℕ, zero, suc, _+_, _-_, _*_, _^_, _<_, _≤_}
 use native.Mathlib.Nat.{pow-le-pow-right}
 use native.Mathlib.Omega.{arith}
 use lib.Dec.{eqb, leb, ltb}
-use lib.ListN.{length, getD, take, drop, replicate, length-map, length-replicate}
+use lib.ListN.{length, getD, drop, replicate, length-map, length-replicate}
 use lib.Seq.{sets, sets-eq, length-sets}
-use borrow.Author.Tests.{eqb-true, eqb-false, leb-true, le-leb, lt-leb, ltb-true, lt-ltb, eq-eqb, ne-eqb}
-use Rattle.rule.specs.Func.{Fn, within}
+use borrow.Author.Tests.{eqb-true, eqb-false, le-leb, lt-leb, ltb-true, lt-ltb, ne-eqb}
+use Rattle.rule.specs.Func.{within}
 use Rattle.rule.specs.Cube.{Cube}
 use Rattle.rule.specs.Number.{cubeNumber}
-use Rattle.rule.specs.Nodes.{named, need, addAll}
+use Rattle.rule.specs.Nodes.{need}
 use Rattle.rule.specs.Rule.{listOf, listNumbers}
 use Rattle.rule.specs.Refusal.{Condition, firstBroken, outOfRange, notWithin, listOver, nodesLack, listLacks}
 use Rattle.rule.proofs.Bools.{and-left, and-right, and-intro, which}
 use Rattle.graph.specs.Table.{tableOf, fnOf, functions, Agree}
 use Rattle.graph.specs.Sound.{Sound, RootedTwice}
 use Rattle.graph.specs.Entry.{tableConditions, inRange, cleared}
-use Rattle.graph.proofs.Refusals.{broken-here, kept-next, none-broken, first-kept, others-kept, not-broken, broken-before, kept-before, unbroken-sound}
+use Rattle.graph.proofs.Refusals.{broken-here, kept-next, none-broken, first-kept, others-kept, broken-before, kept-before, unbroken-sound}
 use Rattle.graph.proofs.Entries.{root-in-range, both-in, first-out, second-out}
 use Rattle.graph.proofs.Clearing.{cleared-alike}
 use Rattle.graph.proofs.Records.{functions-length}
-use Rattle.list.specs.Run.{Run, Short}
 use Rattle.list.specs.Generating.{numbersUnder, Listable, ListedDone, ListedFull, ListedOf}
 use Rattle.list.specs.Entry.{lower, upper, theList, inputConditions, roomConditions, refusal, answerFor, changesNothing, tableLeft, roomLeft, Generates}
 use Rattle.list.specs.declared.generator.Listed.{Listed}

@@ -1,16 +1,16 @@
 -- The generator, one law for each way out: L is 0; U is 1; the three lists or their cover do not fit; and the list.
 use mathlib.Core.Path.{_≡_, refl, sym, ap, _∙_, subst, subst⁻¹}
-use mathlib.Core.Bool.{Bool, true, false}
+use mathlib.Core.Bool.{true, false}
 use mathlib.Core.List.{List, [], _∷_, _++_}
-use Prim.Native.Nat.{ℕ, zero, suc, _+_, _-_, _*_, _^_, _<_, _≤_}
+use Prim.Native.Nat.{ℕ, zero, suc, _+_, _-_, _*_, _<_, _≤_}
 use native.Mathlib.Nat.{mul-zero}
 use native.Mathlib.Omega.{arith}
 use lib.ListN.{length, set}
 use lib.Seq.{sets, length-sets}
-use Rattle.rule.specs.Func.{Fn, constant, either, always, within}
+use Rattle.rule.specs.Func.{Fn, either, always}
 use Rattle.rule.specs.Cube.{Cube, covered, dashes}
 use Rattle.rule.specs.Nodes.{Tree, nodes, named, named3}
-use Rattle.rule.specs.Rule.{G0, G1, G*, G, listOf, result}
+use Rattle.rule.specs.Rule.{G, listOf, result}
 use Rattle.rule.proofs.Bools.{must-be-false, clash}
 use Rattle.rule.proofs.Number.{number-dashes}
 use Rattle.rule.proofs.Operations.{always-constant, constant-always}
@@ -18,8 +18,7 @@ use Rattle.rule.proofs.Steps.{list-step1, list-step2, list-step3}
 use Rattle.rule.proofs.Cover.{no-step-left}
 use Rattle.rule.proofs.CoverSteps.{cover-none, cover-all, cover-step}
 use Rattle.rule.proofs.Named.{named-step1, named-step2, named-step3}
-use Rattle.graph.specs.Table.{Table, tableOf, fnOf, refers}
-use Rattle.graph.specs.Sound.{Sound, RootedTwice}
+use Rattle.graph.specs.Table.{tableOf, fnOf}
 use Rattle.graph.specs.Built.{Built, Lacking, MadeOf}
 use Rattle.graph.specs.declared.build.Made.{Made}
 use Rattle.graph.specs.declared.build.Made.the-variants as made
@@ -29,7 +28,6 @@ use Rattle.list.specs.Run.{Run, Short, Names}
 use Rattle.list.specs.Generating.{numbersUnder, namedC, namedRest, namedB, namedA, namedKept, ThreeRoots, Listable, Expandable, ListsDone, ListsFull, ListsOf, ListedDone, ListedFull, ListedOf}
 use Rattle.list.specs.declared.generator.Lists.{Lists}
 use Rattle.list.specs.declared.generator.Lists.the-variants as lists
-use Rattle.list.specs.declared.generator.Listed.{Listed}
 use Rattle.list.specs.declared.generator.Listed.the-variants as listed
 use Rattle.list.proofs.Runs.{run-none, run-then, run-short, short-more, built-run, built-names, lacking-short}
 

@@ -1,32 +1,29 @@
 -- The three lists of a step, one law for each call: what it asks, what it leaves when it does not fit, and what stands
 -- after it.
-use mathlib.Core.Path.{_≡_, refl, sym, ap, _∙_, subst, subst⁻¹, transport}
-use mathlib.Core.Bool.{Bool, true, false}
-use mathlib.Core.List.{List, [], _∷_, _++_, append-assoc}
-use Prim.Native.Nat.{ℕ, zero, suc, _+_, _-_, _*_, _^_, _<_, _≤_}
-use native.Mathlib.Nat.{pow-succ', mul-zero, mul-one, mul-comm}
+use mathlib.Core.Path.{_≡_, sym, ap, _∙_, subst, subst⁻¹, transport}
+use mathlib.Core.Bool.{true}
+use mathlib.Core.List.{List, _++_, append-assoc}
+use Prim.Native.Nat.{ℕ, suc, _+_, _*_, _^_, _≤_}
+use native.Mathlib.Nat.{pow-succ', mul-zero}
 use native.Mathlib.Omega.{arith}
 use lib.ListN.{length, length-append}
-use lib.Seq.{sets, length-sets}
-use Rattle.rule.specs.Func.{Fn, both, either, less, within}
-use Rattle.rule.specs.Cube.{Sign, sign0, sign1, dash, Cube, covered}
-use Rattle.rule.specs.Nodes.{Tree, nodes, named}
+use lib.Seq.{sets}
+use Rattle.rule.specs.Func.{Fn, within}
+use Rattle.rule.specs.Cube.{Sign, sign0, sign1, dash, Cube}
+use Rattle.rule.specs.Nodes.{Tree, nodes}
 use Rattle.rule.specs.Rule.{P0, P1, G0, G1, R0, R1, R0orR1, U0andU1, G*, listA, listB, listC, put, listOf, result}
-use Rattle.rule.proofs.Cover.{list-covers, within-A, within-B, within-C}
-use Rattle.graph.specs.Table.{Table, tableOf, fnOf, refers}
-use Rattle.graph.specs.Sound.{Sound, RootedTwice}
+use Rattle.graph.specs.Table.{tableOf, fnOf}
+use Rattle.graph.specs.Sound.{Sound}
 use Rattle.list.specs.Run.{Run, Short, Names}
-use Rattle.list.specs.Generating.{numbersUnder, namedKept, namedA, namedB, namedRest, namedC, Stepping, KeptDone, KeptOf, SixRoots, namedLeft, RestDone, RestOf, Listable, ListsDone, ListsFull, ListsOf, ListedDone, ListedFull, ListedOf}
+use Rattle.list.specs.Generating.{numbersUnder, namedKept, namedA, namedB, namedRest, namedC, KeptDone, namedLeft, RestDone, RestOf, Listable, ListsDone, ListedDone, ListedFull, ListedOf}
 use Rattle.list.specs.declared.run.Both.{Both}
 use Rattle.list.specs.declared.run.Both.the-variants as both
-use Rattle.list.specs.declared.step.Kept.{Kept}
 use Rattle.list.specs.declared.step.Kept.the-variants as kept
-use Rattle.list.specs.declared.generator.Lists.{Lists}
 use Rattle.list.specs.declared.generator.Lists.the-variants as lists
 use Rattle.list.specs.declared.generator.Listed.{Listed}
 use Rattle.list.specs.declared.generator.Listed.the-variants as listed
-use Rattle.list.proofs.Runs.{run-then, run-short, run-present, names-stay, names-there, short-more}
-use Rattle.list.proofs.Writing.{signNumber, under-sign, under-append, under-length, sets-append, put-length, result-length, list-bound}
+use Rattle.list.proofs.Runs.{run-then, run-present, names-stay, names-there, short-more}
+use Rattle.list.proofs.Writing.{signNumber, under-sign, under-append, under-length, sets-append, put-length, result-length}
 
 -- What a list promises of two numbers over the columns from column k on.
 unfoldable pub ListPromise : ℕ → ℕ → List ℕ → List ℕ → List ℕ → List ℕ → ℕ → ℕ → ℕ → ℕ → ℕ → ℕ → List ℕ → List ℕ → List ℕ → List ℕ → Listed → Type 0

@@ -1,20 +1,15 @@
 -- The three lists of a step as the code calls for them: one law for what each call asks and one for each way out.
-use mathlib.Core.Path.{_≡_, refl, sym, ap, _∙_, subst, subst⁻¹}
-use mathlib.Core.Bool.{true}
+use mathlib.Core.Path.{_≡_, refl, subst}
 use mathlib.Core.List.{List}
-use Prim.Native.Nat.{ℕ, zero, suc, _+_, _-_, _*_, _^_, _<_, _≤_}
+use Prim.Native.Nat.{ℕ, suc, _+_, _-_, _*_, _^_, _≤_}
 use native.Mathlib.Omega.{arith}
-use lib.ListN.{length}
-use Rattle.rule.specs.Func.{Fn, within}
-use Rattle.rule.specs.Rule.{P0, P1, G0, G1, R0orR1, U0andU1, listOf}
+use Rattle.rule.specs.Rule.{G0, G1, listOf}
 use Rattle.graph.specs.Table.{tableOf, fnOf}
-use Rattle.list.specs.Run.{Short}
-use Rattle.list.specs.Generating.{Stepping, KeptDone, KeptOf, SixRoots, RestDone, RestOf, Listable, Expandable, ListsDone, ListsFull, ListsOf}
+use Rattle.list.specs.Generating.{Stepping, KeptDone, KeptOf, SixRoots, RestOf, Listable, Expandable, ListsOf}
 use Rattle.list.specs.declared.run.Both.{Both}
 use Rattle.list.specs.declared.run.Both.the-variants as both
 use Rattle.list.specs.declared.step.Kept.{Kept}
 use Rattle.list.specs.declared.step.Kept.the-variants as kept
-use Rattle.list.specs.declared.generator.Lists.{Lists}
 use Rattle.list.specs.declared.generator.Lists.the-variants as lists
 use Rattle.list.specs.declared.generator.Listed.{Listed}
 use Rattle.list.specs.declared.generator.Listed.the-variants as listed

@@ -1,15 +1,15 @@
 -- Laws of runs: one after the other, what stays of numbers in use, and what does not fit.
-use mathlib.Core.Path.{_≡_, refl, sym, ap, _∙_, subst, subst⁻¹}
-use mathlib.Core.Bool.{Bool, true, false}
-use mathlib.Core.List.{List, [], _∷_, _++_}
-use Prim.Native.Nat.{ℕ, zero, suc, _+_, _-_, _<_, _≤_}
+use mathlib.Core.Path.{_≡_, refl, sym, ap, _∙_, subst}
+use mathlib.Core.Bool.{true}
+use mathlib.Core.List.{List, [], _++_}
+use Prim.Native.Nat.{ℕ, _+_, _-_, _≤_}
 use native.Mathlib.Omega.{arith}
 use lib.ListN.{length}
 use Rattle.rule.specs.Func.{Fn, joined}
 use Rattle.rule.specs.Nodes.{Tree, nodes, addAll}
 use Rattle.rule.proofs.Sets.{AllIn, addAll-append, present-last-adds-nothing}
 use Rattle.rule.proofs.Growth.{more-no-shorter}
-use Rattle.graph.specs.Table.{Table, tableOf, fnOf, refers, functions, Agree}
+use Rattle.graph.specs.Table.{tableOf, fnOf, refers, functions}
 use Rattle.graph.specs.Sound.{Sound, Sized, RootedTwice}
 use Rattle.graph.specs.Operation.{opOf}
 use Rattle.graph.specs.Built.{Built, Lacking, MadeOf}
@@ -22,7 +22,6 @@ use Rattle.graph.proofs.Building.{agree-itself}
 use Rattle.graph.proofs.Applying.{Promise}
 use Rattle.graph.proofs.Records.{nodes-in-use}
 use Rattle.list.specs.Run.{Run, Short, Names, FourRoots, TwoDone, TwoOf, resultOf}
-use Rattle.list.specs.declared.run.Both.{Both}
 use Rattle.list.specs.declared.run.Both.the-variants.{Done, Full}
 
 -- Nothing named.

@@ -1,17 +1,16 @@
 -- The operations of a step, one law for each call and way out of `keep`, `rest` and `join`.
 use mathlib.Core.Path.{_≡_, refl, sym, ap, _∙_, subst, subst⁻¹}
 use mathlib.Core.Bool.{Bool, true, false}
-use mathlib.Core.List.{List, [], _∷_, _++_, append-assoc}
-use Prim.Native.Nat.{ℕ, zero, suc, _+_, _-_, _<_, _≤_}
+use mathlib.Core.List.{List, _++_, append-assoc}
+use Prim.Native.Nat.{ℕ, suc, _+_, _-_, _≤_}
 use native.Mathlib.Omega.{arith}
 use lib.ListN.{length}
 use Rattle.rule.specs.Func.{Fn, half, joined, both, either, less, same}
 use Rattle.rule.specs.Nodes.{Tree, tree, own, nodes, addAll}
 use Rattle.rule.specs.Rule.{P0, P1, listOf}
 use Rattle.rule.proofs.Sets.{adding-again-adds-nothing, addAll-append}
-use Rattle.rule.proofs.Growth.{more-no-shorter}
-use Rattle.graph.specs.Table.{Table, tableOf, halfOf, fnOf, refers, functions, nodeFn, Agree}
-use Rattle.graph.specs.Sound.{Sound, Sized, RootedTwice}
+use Rattle.graph.specs.Table.{tableOf, halfOf, fnOf, refers, functions, nodeFn}
+use Rattle.graph.specs.Sound.{Sound}
 use Rattle.graph.specs.Operation.{opOf}
 use Rattle.graph.specs.Built.{Halves, Built, Lacking, MadeOf}
 use Rattle.graph.specs.declared.operation.Op.{Op}
@@ -21,12 +20,11 @@ use Rattle.graph.specs.declared.build.Made.the-variants as made
 use Rattle.graph.proofs.Numbers.{half-refers}
 use Rattle.graph.proofs.Agree.{agree-through}
 use Rattle.list.specs.Run.{Run, Short, Names, FourRoots, TwoDone, TwoOf, resultOf}
-use Rattle.list.specs.Generating.{Stepping, namedKept, KeptDone, KeptOf, SixRoots, namedLeft, RestDone, RestOf, ThreeRoots}
+use Rattle.list.specs.Generating.{Stepping, namedKept, KeptOf, SixRoots, namedLeft, RestOf, ThreeRoots}
 use Rattle.list.specs.declared.run.Both.{Both}
 use Rattle.list.specs.declared.run.Both.the-variants as both
-use Rattle.list.specs.declared.step.Kept.{Kept}
 use Rattle.list.specs.declared.step.Kept.the-variants as kept
-use Rattle.list.proofs.Runs.{run-then, run-short, stays, stays-fn, names-stay, short-more, built-run}
+use Rattle.list.proofs.Runs.{run-then, run-short, names-stay, short-more}
 
 -- The operation of two named numbers is that of what they name.
 pub result-names : {v : List ℕ} {l : List ℕ} {h : List ℕ} {c : ℕ} {k : ℕ} {m : ℕ} {f : Fn m} {g : Fn m} {a : ℕ} {b : ℕ} (op : Op) → Names v l h c k m f a → Names v l h c k m g b → resultOf op v l h k m a b ≡ joined (opOf op) m f g

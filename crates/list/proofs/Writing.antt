@@ -1,16 +1,15 @@
 -- What is written: the numbers of cubes under literals chosen before them, stores one after the other, and how long a
 -- list can be.
-use mathlib.Core.Path.{_≡_, refl, sym, ap, _∙_, subst, subst⁻¹}
-use mathlib.Core.Bool.{Bool, true, false}
-use mathlib.Core.List.{List, [], _∷_, _++_, map}
-use Prim.Native.Nat.{ℕ, zero, suc, _+_, _-_, _*_, _^_, _<_, _≤_}
+use mathlib.Core.Path.{_≡_, refl, ap, _∙_, subst⁻¹}
+use mathlib.Core.List.{List, [], _∷_, _++_}
+use Prim.Native.Nat.{ℕ, zero, suc, _+_, _*_, _^_, _≤_}
 use native.Mathlib.Nat.{mul-add, mul-assoc, mul-left-comm, one-le-pow, pow-succ'}
 use native.Mathlib.Omega.{arith}
 use lib.ListN.{length, set, length-append, length-map}
 use lib.Seq.{sets}
-use Rattle.rule.specs.Func.{Fn, always}
+use Rattle.rule.specs.Func.{Fn}
 use Rattle.rule.specs.Point.{bit}
-use Rattle.rule.specs.Cube.{Sign, sign0, sign1, dash, Cube, dashes}
+use Rattle.rule.specs.Cube.{Sign, sign0, sign1, dash, Cube}
 use Rattle.rule.specs.Number.{onesOf, zerosOf, cubeNumber, isOne, isZero}
 use Rattle.rule.specs.Rule.{put, listA, listB, listC, result, listOf}
 use Rattle.rule.proofs.Steps.{by-step, list-step3, list-end}

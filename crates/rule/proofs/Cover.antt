@@ -1,16 +1,15 @@
 -- The rule's list covers every on point and no off point. By induction on the columns: what list A leaves of its half
 -- lies in the other half's upper root too, since P0 is covered by A; so list C may cover it for both digits.
-use mathlib.Core.Path.{_≡_, refl, sym, ap, _∙_, subst, subst⁻¹}
-use mathlib.Core.Bool.{Bool, true, false, not, _&&_, _||_}
-use mathlib.Core.List.{List, [], _∷_, _++_}
-use mathlib.Core.Logic.{_⊎_, inl, inr, ⊎-elim}
+use mathlib.Core.Path.{_≡_, refl, sym, _∙_, subst⁻¹}
+use mathlib.Core.Bool.{Bool, true, false, _||_}
+use mathlib.Core.List.{List, [], _∷_}
+use mathlib.Core.Logic.{⊎-elim}
 use Prim.Native.Nat.{ℕ, zero, suc}
-use lib.ListN.{length}
 use Rattle.rule.specs.Func.{Fn, half, always, both, either, less, within}
 use Rattle.rule.specs.Point.{Pt, lead, rest, at}
 use Rattle.rule.specs.Cube.{Cube, covers, coversAny, covered, dashes}
 use Rattle.rule.specs.Rule.{P0, P1, G0, G1, R0, R1, R0orR1, U0andU1, listA, listB, listC, result, listOf}
-use Rattle.rule.proofs.Func.{at-both, at-either, in-less, less-in, less-out, always-at, within-at, at-within, each}
+use Rattle.rule.proofs.Func.{at-both, at-either, in-less, less-in, less-out, always-at, within-at, at-within}
 use Rattle.rule.proofs.Cubes.{at-covered, dashes-cover}
 use Rattle.rule.proofs.Steps.{by-step, list-step3, any-result}
 use Rattle.rule.proofs.Bools.{and-left, and-right, and-intro, or-true, or-left, or-right, or-otherwise, clash, must-be-true}

@@ -3,7 +3,6 @@ use mathlib.Core.Path.{_≡_, refl, ap, _∙_}
 use mathlib.Core.Bool.{true}
 use mathlib.Core.List.{List, [], _∷_, map}
 use Prim.Native.Nat.{ℕ, _≤_}
-use lib.ListN.{length}
 use Rattle.rule.specs.Func.{Fn, within}
 use Rattle.rule.specs.Cube.{Cube}
 use Rattle.rule.specs.Number.{cubeNumber, signs, wellFormed}

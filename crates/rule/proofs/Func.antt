@@ -1,11 +1,11 @@
 -- Laws of functions by their values at points: each operation and each test says at a point what its name says.
 use mathlib.Core.Path.{_≡_, refl, sym, ap, _∙_}
-use mathlib.Core.Bool.{Bool, true, false, not, _&&_, _||_, Bool·beq}
-use mathlib.Core.List.{List, [], _∷_}
+use mathlib.Core.Bool.{Bool, true, false, not, _&&_, _||_}
+use mathlib.Core.List.{[], _∷_}
 use mathlib.Core.Logic.{_⊎_, inl, inr}
 use Prim.Native.Nat.{ℕ, zero, suc}
 use lib.ListN.{length}
-use Rattle.rule.specs.Func.{Fn, half, constant, joined, butNot, both, either, less, always, same, within}
+use Rattle.rule.specs.Func.{Fn, half, constant, joined, butNot, both, either, less, always, within}
 use Rattle.rule.specs.Point.{Pt, lead, rest, at}
 use Rattle.rule.proofs.Bools.{beq-true, beq-false, and-left, and-right, and-intro, and-false-right, not-is-true, implies, imply-table, not-itself, must-be-true, must-be-false, clash, which}
 

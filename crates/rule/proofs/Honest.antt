@@ -1,17 +1,16 @@
 -- The rule's list keeps the four conditions: every on point covered, no off point, no row and no literal too many.
 use mathlib.Core.Path.{_≡_, refl, ap, _∙_, subst⁻¹}
-use mathlib.Core.Bool.{Bool, true, false, _||_}
+use mathlib.Core.Bool.{true}
 use mathlib.Core.List.{List, [], _∷_, _++_}
 use Prim.Native.Nat.{ℕ, zero, suc, _<_}
 use lib.ListN.{length}
-use Rattle.rule.specs.Func.{Fn, always, within}
-use Rattle.rule.specs.Point.{Pt}
+use Rattle.rule.specs.Func.{Fn, within}
 use Rattle.rule.specs.Cube.{Sign, sign0, sign1, dash, Cube, covers, coversAny, dashes, cubeAt, without}
 use Rattle.rule.specs.Rule.{put, listA, listB, listC, result, listOf}
-use Rattle.rule.specs.Demand.{On, Off, NoOff, Honest}
+use Rattle.rule.specs.Demand.{NoOff, Honest}
 use Rattle.rule.proofs.Steps.{by-step, list-step3, list-end}
 use Rattle.rule.proofs.Cover.{Covers, list-covers}
-use Rattle.rule.proofs.Picks.{Picks, picks-at, picks-covers}
+use Rattle.rule.proofs.Picks.{picks-at, picks-covers}
 use Rattle.rule.proofs.Irredundant.{Irredundant, list-irredundant}
 use Rattle.rule.proofs.Bools.{or-left, clash, must-be-false}
 

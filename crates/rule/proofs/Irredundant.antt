@@ -2,21 +2,21 @@
 -- of P0 to itself, which list C cannot cover because P0 lies outside U1; the same point with a 1 in the first column
 -- is off, so the row needs its 0 there. A row of list C has a point to itself that A or B left.
 use mathlib.Core.Path.{_≡_, refl, sym, ap, _∙_, subst⁻¹}
-use mathlib.Core.Bool.{Bool, true, false, not, _&&_, _||_}
+use mathlib.Core.Bool.{Bool, true, false}
 use mathlib.Core.List.{List, [], _∷_, _++_}
-use mathlib.Core.Logic.{_⊎_, inl, inr, ⊎-elim}
+use mathlib.Core.Logic.{⊎-elim}
 use Prim.Native.Nat.{ℕ, zero, suc}
 use lib.ListN.{length}
-use Rattle.rule.specs.Func.{Fn, half, always, both, within}
+use Rattle.rule.specs.Func.{Fn, half, always, within}
 use Rattle.rule.specs.Point.{Pt, lead, rest, at}
-use Rattle.rule.specs.Cube.{Sign, sign0, sign1, dash, Cube, leadSign, restSigns, permits, covers, coversAny, covered, dashes, isLiteral, hasLiteral, withoutLiteral}
+use Rattle.rule.specs.Cube.{Sign, sign0, sign1, dash, Cube, leadSign, restSigns, permits, covers, coversAny, dashes, isLiteral, hasLiteral, withoutLiteral}
 use Rattle.rule.specs.Rule.{P0, P1, G0, G1, R0, R1, R0orR1, U0andU1, listA, listB, listC, put, result, listOf}
-use Rattle.rule.proofs.Func.{at-both, at-digit, less-in, less-out, not-always, Where}
+use Rattle.rule.proofs.Func.{at-both, at-digit, less-in, less-out, not-always}
 use Rattle.rule.proofs.Cubes.{at-covered}
 use Rattle.rule.proofs.Steps.{by-step, list-step3, any-joined, P0-off, P1-off, C-for-left}
-use Rattle.rule.proofs.Cover.{Covers, list-covers, no-step-left, covers-A, covers-B, covers-C, C-in-0, C-in-1}
+use Rattle.rule.proofs.Cover.{Covers, list-covers, no-step-left, covers-A, covers-B, C-in-0, C-in-1}
 use Rattle.rule.proofs.Cover.{within-A, within-B, within-C}
-use Rattle.rule.proofs.Picks.{Picks, picks-append, picks-put, pick-hits, no-pick, only-pick, only-left, FirstPick, SecondPick, PutPick}
+use Rattle.rule.proofs.Picks.{Picks, picks-append, picks-put, pick-hits, no-pick, only-pick, only-left, FirstPick, SecondPick}
 use Rattle.rule.proofs.Bools.{and-false, and-intro, or-false, clash, must-be-false}
 
 -- An on point that a list leaves bare.

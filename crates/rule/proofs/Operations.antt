@@ -1,5 +1,5 @@
 -- Functions joined with themselves, with a constant, and with a function around them, and which lie within a joined one.
-use mathlib.Core.Path.{_≡_, refl, sym, ap, ap₂, _∙_}
+use mathlib.Core.Path.{_≡_, sym, ap, ap₂, _∙_}
 use mathlib.Core.Bool.{Bool, true, false, not, _&&_, _||_, and-true, and-self, or-self}
 use Prim.Native.Nat.{ℕ, zero, suc}
 use Rattle.rule.specs.Func.{Fn, constant, joined, butNot, both, either, less, always, within}

@@ -1,7 +1,7 @@
 -- One cube of a list and the cubes that are left without it, by position: how a pick goes through lists one after the
 -- other and under a sign, and what a list covers by a pick.
 use mathlib.Core.Path.{_≡_, refl, sym, ap, _∙_}
-use mathlib.Core.Bool.{Bool, true, false, _||_}
+use mathlib.Core.Bool.{true, false, _||_}
 use mathlib.Core.List.{List, [], _∷_, _++_}
 use mathlib.Core.Logic.{_⊎_, inl, inr}
 use Prim.Native.Nat.{ℕ, zero, suc, _<_}

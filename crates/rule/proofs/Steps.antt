@@ -2,12 +2,12 @@
 -- C are for.
 use mathlib.Core.Path.{_≡_, refl, sym, ap, _∙_, subst⁻¹}
 use mathlib.Core.Logic.{_⊎_, inl, inr}
-use mathlib.Core.Bool.{Bool, true, false, not, _&&_, _||_}
+use mathlib.Core.Bool.{Bool, true, false, _&&_, _||_}
 use mathlib.Core.List.{List, [], _∷_, _++_}
 use Prim.Native.Nat.{ℕ, zero, suc}
 use Rattle.rule.specs.Func.{Fn, half, always}
 use Rattle.rule.specs.Point.{Pt, lead, rest, at}
-use Rattle.rule.specs.Cube.{Sign, sign0, sign1, dash, Cube, permits, coversAny, dashes}
+use Rattle.rule.specs.Cube.{sign0, sign1, dash, Cube, permits, coversAny, dashes}
 use Rattle.rule.specs.Rule.{steps, put, P0, P1, R0, R1, R0orR1, listA, listB, listC, result, listOf}
 use Rattle.rule.proofs.Func.{at-either, less-out}
 use Rattle.rule.proofs.Cubes.{any-append, any-put}

@@ -2,16 +2,16 @@
 -- test over each.
 use mathlib.Core.Bool.{Bool, true, false, _&&_}
 use mathlib.Core.List.{List, [], _∷_, _++_, map}
-use Prim.Native.Nat.{ℕ, zero, suc}
+use Prim.Native.Nat.{ℕ}
 use Prim.Native.String.{String, [] as ε, _∷_ as _◁_}
-use Prim.Native.Char.{Char, code}
+use Prim.Native.Char.{code}
 use lib.Dec.{eqb}
 use Rattle.rule.specs.Func.{Fn}
 use Rattle.rule.specs.Cube.{Sign, sign0, sign1, dash, Cube, covered}
 use Rattle.rule.specs.Number.{cubeNumber}
 use Rattle.rule.specs.Rule.{listOf}
 use Rattle.rule.specs.Verdict.{Verdict, accept, off, missing, literal, cube, verdict}
-use Rattle.rule.specs.Rows.{Kind, fd, Row, Out, out1, outDash, lowerOf, upperOf}
+use Rattle.rule.specs.Rows.{Kind, fd, Row, out1, outDash, lowerOf, upperOf}
 
 -- A cube as it is written: 0, 1, and - for a dash.
 unfoldable pub signFor : Bool → Bool → Sign

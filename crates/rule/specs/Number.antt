@@ -1,11 +1,10 @@
 -- The 32-bit number of a cube: bit k says that column k must be 1, bit 16 + k that it must be 0.
 use mathlib.Core.Bool.{Bool, true, false, not, _&&_}
-use mathlib.Core.List.{List, [], _∷_, map}
+use mathlib.Core.List.{List, [], _∷_}
 use Prim.Native.Nat.{ℕ, zero, suc, _+_, _*_, _/_, _%_}
 use lib.Count.{ones}
 use lib.Dec.{eqb}
-use Rattle.rule.specs.Func.{Fn}
-use Rattle.rule.specs.Point.{Pt, bit, odd, digits}
+use Rattle.rule.specs.Point.{bit, odd}
 use Rattle.rule.specs.Cube.{Sign, sign0, sign1, dash, Cube}
 
 -- The columns that must be 1 as a number with bit k for column k, and likewise those that must be 0.

@@ -1,5 +1,5 @@
 -- The numbers returned at refusals, by name, and the order in which they are given: the first that applies.
-use mathlib.Core.Bool.{Bool, true, false, cond}
+use mathlib.Core.Bool.{Bool, cond}
 use mathlib.Core.List.{List, [], _∷_}
 use Prim.Native.Nat.{ℕ}
 

@@ -2,7 +2,7 @@
 -- of reading them.
 use mathlib.Core.Bool.{Bool, true, false, not}
 use mathlib.Core.List.{List, [], _∷_, _++_}
-use Prim.Native.Nat.{ℕ, zero, suc}
+use Prim.Native.Nat.{ℕ}
 use lib.ListN.{length}
 use Rattle.rule.specs.Func.{Fn, constant, both, either, less, always}
 use Rattle.rule.specs.Cube.{Cube, cubeFn, covered}

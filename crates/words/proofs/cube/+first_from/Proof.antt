@@ -1,6 +1,6 @@
 -- `words::cube::first_from` meets its contract: one word, nothing in any word, or the halves of the slice by the sign of the
 -- first column, the half for 0 first. The measure is the columns left.
-use mathlib.Core.Path.{sym, _∙_}
+use mathlib.Core.Path.{sym}
 use Prim.Native.Nat.{ℕ, _-_, _/_, _<_, _≤_}
 use native.Mathlib.Omega.{arith}
 use lib.ListN.{length}
