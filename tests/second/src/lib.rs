@@ -4,9 +4,9 @@
 //!
 //! From the bottom up: `point`, `cube`, `function` and `nodes` are the things themselves;
 //! `table` is the lent row of records; `list` and `verdict` are the two rules; `line` and
-//! `text` say what a text means; `generator`, `checker`, `reading`, `candidate` and `writing`
-//! are the entries with their refusals and what they leave behind; `programs` are the two
-//! programs.
+//! `text` say what a text means; `operation`, `generator`, `checker`, `reading`, `candidate` and
+//! `writing` are the entries with their refusals and what they leave behind; `programs` are the
+//! two programs.
 
 pub mod candidate;
 pub mod checker;
@@ -16,6 +16,7 @@ pub mod generator;
 pub mod line;
 pub mod list;
 pub mod nodes;
+pub mod operation;
 pub mod point;
 pub mod programs;
 pub mod reading;

@@ -3,7 +3,7 @@
 
 mod common;
 
-use common::{function, naive, on_at, Random};
+use common::{full_records, function, naive, on_at, random_records, walked, Random};
 use second::function::Function;
 use second::refusal::{COLUMNS_OVER, OUTSIDE_RANGE, RECORD_BROKEN, TABLE_OVER};
 use second::table::{judge_numbers, judge_table, sound, Record, Table};
@@ -73,34 +73,6 @@ fn numbers_reach_to_the_last_record_in_use() {
     assert_eq!(number(0, &[2]), Some(OUTSIDE_RANGE));
     assert_eq!(number(3, &[4, 0]), None);
     assert_eq!(number(3, &[0, 5]), Some(OUTSIDE_RANGE));
-}
-
-/// The value at a point by walking the records.
-fn walked(records: &[Record], number: usize, point: u32) -> bool {
-    match number {
-        0 | 1 => number == 1,
-        _ => {
-            let record = records[number - 2];
-            let high = point >> record.level & 1 == 1;
-            let next = if high { record.high } else { record.low };
-            walked(records, usize::from(next), point)
-        }
-    }
-}
-
-/// Random records that keep their rule.
-fn random_records(random: &mut Random, columns: usize, tries: usize) -> Vec<Record> {
-    let mut in_use = Vec::new();
-    for _ in 0..tries {
-        let mut number = || random.below(in_use.len() + 2) as u16;
-        let (low, high) = (number(), number());
-        let level = random.below(columns) as u16;
-        in_use.push(record(level, low, high));
-        if !sound(columns, &in_use) {
-            in_use.pop();
-        }
-    }
-    in_use
 }
 
 #[test]
@@ -188,19 +160,7 @@ fn new_records_come_low_half_first_then_high_then_themselves() {
 #[test]
 fn sixteen_columns_and_4096_records() {
     let mut random = Random::new(34);
-    let mut in_use: Vec<Record> = (0..16).map(|k| record(15 - k, 0, 1 + k)).collect();
-    in_use[0] = record(15, 0, 1);
-    assert!(sound(16, &in_use));
-    while in_use.len() < 4_096 {
-        let level = random.below(4) as u16;
-        let low = random.below(14) as u16;
-        let high = random.below(in_use.len() + 2) as u16;
-        let new = record(level, low, high);
-        let greater = |n: u16| n < 2 || in_use[usize::from(n) - 2].level > level;
-        if low != high && greater(low) && greater(high) && !in_use.contains(&new) {
-            in_use.push(new);
-        }
-    }
+    let in_use = full_records(&mut random);
     assert!(judge_table(16, &in_use, 4_096).is_ok());
     let table = Table::of(16, &in_use);
     assert_eq!(table.nodes().count(), 4_096);

@@ -81,6 +81,52 @@ pub fn table_of(l: &Function, u: &Function, length: usize) -> (Vec<Record>, usiz
     (records, table.count(), lower, upper)
 }
 
+/// The value at a point by walking the records.
+pub fn walked(records: &[Record], number: usize, point: u32) -> bool {
+    match number {
+        0 | 1 => number == 1,
+        _ => {
+            let record = records[number - 2];
+            let high = point >> record.level & 1 == 1;
+            let next = if high { record.high } else { record.low };
+            walked(records, usize::from(next), point)
+        }
+    }
+}
+
+/// Random records that keep their rule.
+pub fn random_records(random: &mut Random, columns: usize, tries: usize) -> Vec<Record> {
+    let mut in_use = Vec::new();
+    for _ in 0..tries {
+        let mut number = || random.below(in_use.len() + 2) as u16;
+        let (low, high) = (number(), number());
+        let level = random.below(columns) as u16;
+        in_use.push(Record::new(level, low, high));
+        if !second::table::sound(columns, &in_use) {
+            in_use.pop();
+        }
+    }
+    in_use
+}
+
+/// 4,096 random records of 16 columns that keep their rule: a chain through all columns, and
+/// above it records of the first four.
+pub fn full_records(random: &mut Random) -> Vec<Record> {
+    let mut in_use: Vec<Record> = (0..16).map(|k| Record::new(15 - k, 0, 1 + k)).collect();
+    in_use[0] = Record::new(15, 0, 1);
+    while in_use.len() < 4_096 {
+        let level = random.below(4) as u16;
+        let low = random.below(14) as u16;
+        let high = random.below(in_use.len() + 2) as u16;
+        let new = Record::new(level, low, high);
+        let greater = |n: u16| n < 2 || in_use[usize::from(n) - 2].level > level;
+        if low != high && greater(low) && greater(high) && !in_use.contains(&new) {
+            in_use.push(new);
+        }
+    }
+    in_use
+}
+
 /// The signs of each cube.
 pub fn all_signs(cubes: &[u32], columns: usize) -> Vec<String> {
     cubes

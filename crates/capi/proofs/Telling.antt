@@ -1,0 +1,44 @@
+-- Each case of an answer, told: the numbers are those that the case has by definition.
+use mathlib.Core.Path.{_≡_, refl, subst⁻¹}
+use mathlib.Core.Bool.{Bool, true, false}
+use mathlib.Core.List.{[], _∷_}
+use Prim.Native.Nat.{ℕ}
+use mir.Val.{boolByte}
+use Rattle.graph.specs.Entry.{numbersOf, valueOf}
+use Rattle.graph.specs.declared.entry.Answer.{Answer}
+use Rattle.graph.specs.declared.entry.Answer.the-variants.{Done, Refused}
+use Rattle.graph.specs.declared.entry.Valued.{Valued}
+use Rattle.graph.specs.declared.entry.Valued.the-variants.{Is, Denied}
+use Rattle.list.specs.Entry as list
+use Rattle.list.specs.declared.entry.Generated.{Generated}
+use Rattle.list.specs.declared.entry.Generated.the-variants as generated
+use Rattle.capi.specs.Told.{rootAndCount, valueAlone, returnedAndLength, Told, ToldValue, ToldList}
+
+pub done-told : {a : Answer} {x : ℕ} {c : ℕ} → a ≡ Done x c → Told a 0 (x ∷ c ∷ [])
+unfolding numbersOf rootAndCount
+done-told {x} {c} e = subst⁻¹ (λ a. Told a 0 (x ∷ c ∷ [])) e (record { refusal = refl; numbers = refl })
+
+pub refused-told : {a : Answer} {r : ℕ} {c : ℕ} → a ≡ Refused r c → Told a r (0 ∷ c ∷ [])
+unfolding numbersOf rootAndCount
+refused-told {r} {c} e = subst⁻¹ (λ a. Told a r (0 ∷ c ∷ [])) e (record { refusal = refl; numbers = refl })
+
+-- A truth value is stored as its byte.
+pub value-told : {a : Valued} {b : Bool} → a ≡ Is b → ToldValue a 0 (boolByte b ∷ [])
+unfolding valueOf valueAlone
+value-told {a} {b} e = go b e
+  where
+    go : (b : Bool) → a ≡ Is b → ToldValue a 0 (boolByte b ∷ [])
+    go true e = subst⁻¹ (λ a. ToldValue a 0 (1 ∷ [])) e (record { refusal = refl; numbers = refl })
+    go false e = subst⁻¹ (λ a. ToldValue a 0 (0 ∷ [])) e (record { refusal = refl; numbers = refl })
+
+pub denied-told : {a : Valued} {r : ℕ} → a ≡ Denied r → ToldValue a r (0 ∷ [])
+unfolding valueOf valueAlone
+denied-told {r} e = subst⁻¹ (λ a. ToldValue a r (0 ∷ [])) e (record { refusal = refl; numbers = refl })
+
+pub list-told : {a : Generated} {n : ℕ} → a ≡ generated.Done n → ToldList a 0 (0 ∷ n ∷ [])
+unfolding list.numbersOf returnedAndLength
+list-told {n} e = subst⁻¹ (λ a. ToldList a 0 (0 ∷ n ∷ [])) e (record { refusal = refl; numbers = refl })
+
+pub list-refused-told : {a : Generated} {r : ℕ} {x : ℕ} → a ≡ generated.Refused r x → ToldList a r (x ∷ 0 ∷ [])
+unfolding list.numbersOf returnedAndLength
+list-refused-told {r} {x} e = subst⁻¹ (λ a. ToldList a r (x ∷ 0 ∷ [])) e (record { refusal = refl; numbers = refl })

@@ -1,0 +1,41 @@
+-- What an export's contract allows is one status, one content of the array, and one of the slices lent.
+use mathlib.Core.Path.{_≡_, sym, ap, _∙_}
+use mathlib.Core.Bool.{Bool}
+use mathlib.Core.List.{List}
+use Prim.Native.Nat.{ℕ}
+use Rattle.rule.specs.Func.{Fn}
+use Rattle.graph.specs.Entry.{numbersOf}
+use Rattle.graph.specs.declared.entry.Valued.{Valued}
+use Rattle.graph.proofs.Unique.{operated-unique}
+use Rattle.list.specs.Entry as list
+use Rattle.list.proofs.Delivered.{generates-unique}
+use Rattle.capi.specs.Told.{rootAndCount, returnedAndLength, Operating, ToldValue, Generating}
+
+module _ {n : ℕ} {c : ℕ} {v : List ℕ} {l : List ℕ} {h : List ℕ} {ranged : Bool} {f : Fn n} {v₁ : List ℕ} {l₁ : List ℕ} {h₁ : List ℕ} {s₁ : ℕ} {o₁ : List ℕ} {v₂ : List ℕ} {l₂ : List ℕ} {h₂ : List ℕ} {s₂ : ℕ} {o₂ : List ℕ} where
+  pub operating-unique : Operating n c v l h ranged f v₁ l₁ h₁ s₁ o₁ → Operating n c v l h ranged f v₂ l₂ h₂ s₂ o₂ →
+      (s₁ ≡ s₂) × (o₁ ≡ o₂) × (v₁ ≡ v₂) × (l₁ ≡ l₂) × (h₁ ≡ h₂)
+  operating-unique p q =
+      let same = operated-unique (p .operated) (q .operated) in (
+        p .told .refusal ∙ ap (λ a. numbersOf a .refusal) (same .0) ∙ sym (q .told .refusal),
+        p .told .numbers ∙ ap rootAndCount (same .0) ∙ sym (q .told .numbers),
+        same .1,
+        same .2,
+        same .3,
+      )
+
+pub told-value-unique : {a : Valued} {s₁ : ℕ} {o₁ : List ℕ} {s₂ : ℕ} {o₂ : List ℕ} → ToldValue a s₁ o₁ → ToldValue a s₂ o₂ →
+    (s₁ ≡ s₂) × (o₁ ≡ o₂)
+told-value-unique p q = (p .refusal ∙ sym (q .refusal), p .numbers ∙ sym (q .numbers))
+
+module _ {n : ℕ} {c : ℕ} {v : List ℕ} {l : List ℕ} {h : List ℕ} {a : ℕ} {b : ℕ} {room : List ℕ} {v₁ : List ℕ} {l₁ : List ℕ} {h₁ : List ℕ} {room₁ : List ℕ} {s₁ : ℕ} {o₁ : List ℕ} {v₂ : List ℕ} {l₂ : List ℕ} {h₂ : List ℕ} {room₂ : List ℕ} {s₂ : ℕ} {o₂ : List ℕ} where
+  pub generating-unique : Generating n c v l h a b room v₁ l₁ h₁ room₁ s₁ o₁ → Generating n c v l h a b room v₂ l₂ h₂ room₂ s₂ o₂ →
+      (s₁ ≡ s₂) × (o₁ ≡ o₂) × (v₁ ≡ v₂) × (l₁ ≡ l₂) × (h₁ ≡ h₂) × (room₁ ≡ room₂)
+  generating-unique p q =
+      let same = generates-unique n c v l h a b room (p .generates) (q .generates) in (
+        p .told .refusal ∙ ap (λ a. list.numbersOf a .refusal) (same .0) ∙ sym (q .told .refusal),
+        p .told .numbers ∙ ap returnedAndLength (same .0) ∙ sym (q .told .numbers),
+        same .1,
+        same .2,
+        same .3,
+        same .4,
+      )

@@ -1,0 +1,51 @@
+-- How an answer is told in numbers: a status as the result, the other numbers in a lent array.
+use mathlib.Core.Path.{_≡_}
+use mathlib.Core.Bool.{Bool, cond}
+use mathlib.Core.List.{List, [], _∷_}
+use Prim.Native.Nat.{ℕ}
+use Rattle.rule.specs.Func.{Fn}
+use Rattle.graph.specs.Entry.{numbersOf, valueOf, Operated}
+use Rattle.graph.specs.declared.entry.Answer.{Answer}
+use Rattle.graph.specs.declared.entry.Valued.{Valued}
+use Rattle.list.specs.Entry.{Generates}
+use Rattle.list.specs.Entry as list
+use Rattle.list.specs.declared.entry.Generated.{Generated}
+
+-- What the array of an operation holds: the root, then the count of records in use.
+unfoldable pub rootAndCount : Answer → List ℕ
+rootAndCount a = numbersOf a .root ∷ numbersOf a .count ∷ []
+
+-- What the array of a value holds: the value at the point, as 0 or 1.
+unfoldable pub valueAlone : Valued → List ℕ
+valueAlone a = cond (valueOf a .1) 1 0 ∷ []
+
+-- What the array of the generator holds: what a refusal returns, then the length of the list.
+unfoldable pub returnedAndLength : Generated → List ℕ
+returnedAndLength a = list.numbersOf a .returned ∷ list.numbersOf a .length ∷ []
+
+-- The status is the answer's refusal or 0, and the array holds its other numbers.
+pub record Told (a : Answer) (status : ℕ) (out : List ℕ) : Type 0 where
+  pub refusal : status ≡ numbersOf a .refusal
+  pub numbers : out ≡ rootAndCount a
+
+-- The same of a value.
+pub record ToldValue (a : Valued) (status : ℕ) (out : List ℕ) : Type 0 where
+  pub refusal : status ≡ valueOf a .0
+  pub numbers : out ≡ valueAlone a
+
+-- The same of a generation.
+pub record ToldList (a : Generated) (status : ℕ) (out : List ℕ) : Type 0 where
+  pub refusal : status ≡ list.numbersOf a .refusal
+  pub numbers : out ≡ returnedAndLength a
+
+-- An operation that builds, with the result f: an answer that it allows is told.
+pub record Operating (n : ℕ) (c : ℕ) (v : List ℕ) (l : List ℕ) (h : List ℕ) (ranged : Bool) (f : Fn n) (v′ : List ℕ) (l′ : List ℕ) (h′ : List ℕ) (status : ℕ) (out : List ℕ) : Type 0 where
+  pub answer : Answer
+  pub operated : Operated n c v l h ranged f v′ l′ h′ answer
+  pub told : Told answer status out
+
+-- The generator, for the roots a and b: the answer that it allows is told.
+pub record Generating (n : ℕ) (c : ℕ) (v : List ℕ) (l : List ℕ) (h : List ℕ) (a : ℕ) (b : ℕ) (room : List ℕ) (v′ : List ℕ) (l′ : List ℕ) (h′ : List ℕ) (room′ : List ℕ) (status : ℕ) (out : List ℕ) : Type 0 where
+  pub answer : Generated
+  pub generates : Generates n c v l h a b room v′ l′ h′ room′ answer
+  pub told : ToldList answer status out
