@@ -18,7 +18,7 @@ use Rattle.graph.specs.Table.{Table, tableOf, fnOf, refers, functions, n
 use Rattle.graph.specs.Sound.{Sized, Sound, Rooted}
 use Rattle.graph.specs.Operation.{opOf}
 use Rattle.graph.specs.Built.{Built, Lacking, MadeOf}
-use Rattle.graph.specs.Entry.{tableConditions, buildConditions, cleared, countAfter, answerTo, Settled, leftBy, Refusing, Answered, Operated, inRange, resultOf, variableFn}
+use Rattle.graph.specs.Entry.{numbersOf, tableConditions, buildConditions, cleared, countAfter, answerTo, Settled, leftBy, Refusing, Answered, Operated, inRange, resultOf, variableFn}
 use Rattle.graph.specs.declared.operation.Op.{Op}
 use Rattle.graph.specs.declared.build.Made.{Made}
 use Rattle.graph.specs.declared.build.Made.the-variants as Made
@@ -156,10 +156,10 @@ module _ (n : ℕ) (c : ℕ) (v : List ℕ) (l : List ℕ) (h : List ℕ) (range
 
   -- A refusal other than 7 changes nothing.
   refused-unchanged : (r : ℕ) → (r ≡ 0 → ⊥) → (r ≡ nodesLack → ⊥) → firstBroken (buildConditions n c v l h ranged f) ≡ r → Operated n c v l h ranged f v l h (Refused r c)
-  unfolding leftBy
+  unfolding leftBy numbersOf
   refused-unchanged r z k e =
       operated-refused v l h (Refused r c) r z e
-      (record { answer = refl; level = unchanged v; low = unchanged l; high = unchanged h })
+      (record { answer = refl; numbers = refl; level = unchanged v; low = unchanged l; high = unchanged h })
     where
       unchanged : (s : List ℕ) → s ≡ cond (eqb r nodesLack) (cleared c s) s
       unchanged s = sym (ap (λ b. cond b (cleared c s) s) (ne-eqb r nodesLack k))
@@ -179,12 +179,13 @@ module _ (n : ℕ) (c : ℕ) (v : List ℕ) (l : List ℕ) (h : List ℕ) (range
   -- What was made is settled.
   module _ (v₁ : List ℕ) (l₁ : List ℕ) (h₁ : List ℕ) (v₂ : List ℕ) (l₂ : List ℕ) (h₂ : List ℕ) (a : Answer) where
     answered : (x : ℕ) (c′ : ℕ) → Built n c v l h v₁ l₁ h₁ 0 n f x c′ → Settled (Made.Done x c′) c v₁ l₁ h₁ v₂ l₂ h₂ a → Answered n c v l h ranged f v₂ l₂ h₂ a
-    unfolding countAfter answerTo
+    unfolding countAfter answerTo numbersOf
     answered x c′ b s =
         record {
           root = x;
           count = c′;
           answer = s .answer;
+          numbers = ap numbersOf (s .answer);
           built =
               subst₃ (λ w m i. Built n c v l h w m i 0 n f x c′) (sym (s .level)) (sym (s .low)) (sym (s .high)) (built-cleared b);
           level = stays v₁ v₂ (b .sound .sized .count) (s .level);
@@ -196,10 +197,11 @@ module _ (n : ℕ) (c : ℕ) (v : List ℕ) (l : List ℕ) (h : List ℕ) (range
         stays t u k e = e ∙ sym (cleared-again c′ t k) ∙ ap (cleared c′) (sym e)
 
     lacked : Sized c v l h → Lacking n c v l h v₁ l₁ h₁ 0 n f → Settled Made.Full c v₁ l₁ h₁ v₂ l₂ h₂ a → Refusing n c v l h ranged f v₂ l₂ h₂ nodesLack a
-    unfolding countAfter answerTo leftBy tableOf
+    unfolding countAfter answerTo leftBy tableOf numbersOf
     lacked z b s =
         record {
           answer = s .answer;
+          numbers = ap numbersOf (s .answer);
           level = s .level ∙ cleared-alike c v₁ v (b .length-kept) (b .kept .level);
           low = s .low ∙ cleared-alike c l₁ l (b .sized .low ∙ b .length-kept ∙ sym (z .low)) (b .kept .low);
           high = s .high ∙ cleared-alike c h₁ h (b .sized .high ∙ b .length-kept ∙ sym (z .high)) (b .kept .high);

@@ -82,6 +82,7 @@ module _ (n : ℕ) (c : ℕ) (v : List ℕ) (l : List ℕ) (h : List ℕ) (range
   -- Refused: the answer has the number and the old count, and the slices are left as the number says.
   pub record Refusing (r : ℕ) (a : Answer) : Type 0 where
     pub answer : a ≡ Refused r c
+    pub numbers : numbersOf a ≡ record { refusal = r; returned = 0; root = 0; count = c }
     pub level : v′ ≡ leftBy r c v
     pub low : l′ ≡ leftBy r c l
     pub high : h′ ≡ leftBy r c h
@@ -92,6 +93,7 @@ module _ (n : ℕ) (c : ℕ) (v : List ℕ) (l : List ℕ) (h : List ℕ) (range
     pub root : ℕ
     pub count : ℕ
     pub answer : a ≡ Done root count
+    pub numbers : numbersOf a ≡ record { refusal = 0; returned = 0; root = root; count = count }
     pub built : Built n c v l h v′ l′ h′ 0 n f root count
     pub level : v′ ≡ cleared count v′
     pub low : l′ ≡ cleared count l′

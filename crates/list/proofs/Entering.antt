@@ -6,7 +6,7 @@ use mathlib.Core.Logic.{_⊎_, inl, inr}
 use Prim.Native.Nat.{ℕ, zero, suc, _+_, _-_, _*_, _^_, _<_, _≤_}
 use native.Mathlib.Nat.{pow-le-pow-right}
 use native.Mathlib.Omega.{arith}
-use lib.Dec.{eqb, leb, ltb}
+use lib.Dec.{eqb, leb, ltb, eqb·suc-zero}
 use lib.ListN.{length, getD, drop, replicate, length-map, length-replicate}
 use lib.Seq.{sets, sets-eq, length-sets}
 use borrow.Author.Tests.{eqb-true, eqb-false, le-leb, lt-leb, ltb-true, lt-ltb, ne-eqb}
@@ -25,7 +25,7 @@ use Rattle.graph.proofs.Entries.{root-in-range, both-in, first-out, second-out}
 use Rattle.graph.proofs.Clearing.{cleared-alike}
 use Rattle.graph.proofs.Records.{functions-length}
 use Rattle.list.specs.Generating.{numbersUnder, Listable, ListedDone, ListedFull, ListedOf}
-use Rattle.list.specs.Entry.{lower, upper, theList, inputConditions, roomConditions, refusal, answerFor, changesNothing, tableLeft, roomLeft, Generates}
+use Rattle.list.specs.Entry.{numbersOf, numbersFor, lower, upper, theList, inputConditions, roomConditions, refusal, answerFor, changesNothing, tableLeft, roomLeft, Generates}
 use Rattle.list.specs.declared.generator.Listed.{Listed}
 use Rattle.list.specs.declared.generator.Listed.the-variants as listed
 use Rattle.list.specs.declared.entry.Generated.{Generated}
@@ -135,12 +135,25 @@ module _ (n : ℕ) (c : ℕ) (v : List ℕ) (l : List ℕ) (h : List ℕ) (a : �
         pub input-kept : length room ≤ 16384 → 0 ≡ firstBroken (inputConditions n c v l h a b room)
         input-kept u = sym (past-inside ∙ kept-next sizeKept [] (le-leb (length room) 16384 u) ∙ none-broken)
 
+  -- The answer for a refusal has its numbers.
+  answer-numbers : (q : ℕ) → numbersOf (answerFor n c v l h a b room q) ≡ numbersFor n c v l h a b room q
+  unfolding numbersOf answerFor numbersFor
+  answer-numbers zero = refl
+  answer-numbers (suc q) =
+      λ i.
+      record {
+        refusal = suc q;
+        returned = cond (eqb (suc q) listLacks) (length (theList n c v l h a b room)) 0;
+        length = cond (sym (eqb·suc-zero q) i) (length (theList n c v l h a b room)) 0;
+      }
+
   -- What has to be shown where the refusal is known.
   generates-at : (q : ℕ) → refusal n c v l h a b room ≡ q → (v′ : List ℕ) (l′ : List ℕ) (h′ : List ℕ) (room′ : List ℕ) (r : Generated) →
       r ≡ answerFor n c v l h a b room q → v′ ≡ tableLeft n c v l h a b room q v → l′ ≡ tableLeft n c v l h a b room q l → h′ ≡ tableLeft n c v l h a b room q h → room′ ≡ roomLeft n c v l h a b room q → Generates n c v l h a b room v′ l′ h′ room′ r
   generates-at q e v′ l′ h′ room′ r x y z w o =
       record {
         answer = x ∙ ap (answerFor n c v l h a b room) (sym e);
+        numbers = ap numbersOf x ∙ answer-numbers q ∙ ap (numbersFor n c v l h a b room) (sym e);
         level = y ∙ ap (λ k. tableLeft n c v l h a b room k v) (sym e);
         low = z ∙ ap (λ k. tableLeft n c v l h a b room k l) (sym e);
         high = w ∙ ap (λ k. tableLeft n c v l h a b room k h) (sym e);
@@ -199,7 +212,7 @@ module _ (n : ℕ) (c : ℕ) (v : List ℕ) (l : List ℕ) (h : List ℕ) (a : �
     pub inside-kept : within n (lower n c v l h a b room) (upper n c v l h a b room) ≡ true
     inside-kept = first-kept insideKept (sizeKept ∷ []) (λ q. omega arith) (others-kept rangeKept (insideKept ∷ sizeKept ∷ []) (λ q. omega arith) rest-kept)
 
-    roots : RootedTwice n c v l h 0 a b
+    pub roots : RootedTwice n c v l h 0 a b
     roots =
         record {
           sound = table-good;

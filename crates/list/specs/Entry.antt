@@ -60,6 +60,15 @@ module _ (n : ℕ) (c : ℕ) (v : List ℕ) (l : List ℕ) (h : List ℕ) (a : �
   answerFor zero = Done (length theList)
   answerFor (suc r) = Refused (suc r) (cond (eqb (suc r) listLacks) (length theList) 0)
 
+  -- The numbers of that answer.
+  unfoldable pub numbersFor : ℕ → Numbers
+  numbersFor r =
+      record {
+        refusal = r;
+        returned = cond (eqb r listLacks) (lib.ListN.length theList) 0;
+        length = cond (eqb r 0) (lib.ListN.length theList) 0;
+      }
+
   -- Numbers 1 to 6 change nothing.
   unfoldable pub changesNothing : ℕ → Bool
   changesNothing r = not (eqb r 0) && ltb r nodesLack
@@ -75,6 +84,7 @@ module _ (n : ℕ) (c : ℕ) (v : List ℕ) (l : List ℕ) (h : List ℕ) (a : �
   -- What the generator promises.
   pub record Generates (v′ : List ℕ) (l′ : List ℕ) (h′ : List ℕ) (room′ : List ℕ) (r : Generated) : Type 0 where
     pub answer : r ≡ answerFor refusal
+    pub numbers : numbersOf r ≡ numbersFor refusal
     pub level : v′ ≡ tableLeft refusal v
     pub low : l′ ≡ tableLeft refusal l
     pub high : h′ ≡ tableLeft refusal h
