@@ -1,0 +1,7 @@
+-- The meaning of whole texts, one concept to a file.
+pub mod Outcome
+pub mod Judged
+pub mod Example
+pub mod Room
+pub mod Writing
+pub mod Candidate

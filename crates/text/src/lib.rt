@@ -1,0 +1,4 @@
+// Reading and writing one-output PLA text: whole texts, candidate lists, and lists written out.
+pub mod candidate;
+pub mod judge;
+pub mod writing;
