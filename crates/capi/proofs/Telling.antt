@@ -12,7 +12,10 @@ use Rattle.graph.specs.declared.entry.Valued.the-variants.{Is, Denied}
 use Rattle.list.specs.Entry as list
 use Rattle.list.specs.declared.entry.Generated.{Generated}
 use Rattle.list.specs.declared.entry.Generated.the-variants as generated
-use Rattle.capi.specs.Told.{rootAndCount, valueAlone, returnedAndLength, Told, ToldValue, ToldList}
+use Rattle.checker.specs.declared.judged.Judged.{Judged}
+use Rattle.checker.specs.declared.judged.Judged.the-variants as judged
+use Rattle.capi.specs.Told.{rootAndCount, valueAlone, returnedAndLength, verdictNumbersOf, kindAndValues}
+use Rattle.capi.specs.Told.{Told, ToldValue, ToldList, ToldVerdict}
 
 pub done-told : {a : Answer} {x : ℕ} {c : ℕ} → a ≡ Done x c → Told a 0 (x ∷ c ∷ [])
 unfolding numbersOf rootAndCount
@@ -42,3 +45,28 @@ list-told {n} e = subst⁻¹ (λ a. ToldList a 0 (0 ∷ n ∷ [])) e (record { r
 pub list-refused-told : {a : Generated} {r : ℕ} {x : ℕ} → a ≡ generated.Refused r x → ToldList a r (x ∷ 0 ∷ [])
 unfolding list.numbersOf returnedAndLength
 list-refused-told {r} {x} e = subst⁻¹ (λ a. ToldList a r (x ∷ 0 ∷ [])) e (record { refusal = refl; numbers = refl })
+
+module _ {a : Judged} where
+  pub accept-told : a ≡ judged.Accept → ToldVerdict a 0 (0 ∷ 0 ∷ 0 ∷ [])
+  unfolding verdictNumbersOf kindAndValues
+  accept-told e = subst⁻¹ (λ a. ToldVerdict a 0 (0 ∷ 0 ∷ 0 ∷ [])) e (record { refusal = refl; numbers = refl })
+
+  pub off-told : {c : ℕ} {p : ℕ} → a ≡ judged.Off c p → ToldVerdict a 0 (1 ∷ c ∷ p ∷ [])
+  unfolding verdictNumbersOf kindAndValues
+  off-told {c} {p} e = subst⁻¹ (λ a. ToldVerdict a 0 (1 ∷ c ∷ p ∷ [])) e (record { refusal = refl; numbers = refl })
+
+  pub missing-told : {p : ℕ} → a ≡ judged.Missing p → ToldVerdict a 0 (2 ∷ p ∷ 0 ∷ [])
+  unfolding verdictNumbersOf kindAndValues
+  missing-told {p} e = subst⁻¹ (λ a. ToldVerdict a 0 (2 ∷ p ∷ 0 ∷ [])) e (record { refusal = refl; numbers = refl })
+
+  pub literal-told : {c : ℕ} {k : ℕ} → a ≡ judged.Literal c k → ToldVerdict a 0 (3 ∷ c ∷ k ∷ [])
+  unfolding verdictNumbersOf kindAndValues
+  literal-told {c} {k} e = subst⁻¹ (λ a. ToldVerdict a 0 (3 ∷ c ∷ k ∷ [])) e (record { refusal = refl; numbers = refl })
+
+  pub cube-told : {c : ℕ} → a ≡ judged.Cube c → ToldVerdict a 0 (4 ∷ c ∷ 0 ∷ [])
+  unfolding verdictNumbersOf kindAndValues
+  cube-told {c} e = subst⁻¹ (λ a. ToldVerdict a 0 (4 ∷ c ∷ 0 ∷ [])) e (record { refusal = refl; numbers = refl })
+
+  pub check-refused-told : {r : ℕ} {x : ℕ} → a ≡ judged.Refused r x → ToldVerdict a r (x ∷ 0 ∷ 0 ∷ [])
+  unfolding verdictNumbersOf kindAndValues
+  check-refused-told {r} {x} e = subst⁻¹ (λ a. ToldVerdict a r (x ∷ 0 ∷ 0 ∷ [])) e (record { refusal = refl; numbers = refl })

@@ -9,7 +9,8 @@ use Rattle.graph.specs.declared.entry.Valued.{Valued}
 use Rattle.graph.proofs.Unique.{operated-unique}
 use Rattle.list.specs.Entry as list
 use Rattle.list.proofs.Delivered.{generates-unique}
-use Rattle.capi.specs.Told.{rootAndCount, returnedAndLength, Operating, ToldValue, Generating}
+use Rattle.checker.specs.declared.judged.Judged.{Judged}
+use Rattle.capi.specs.Told.{rootAndCount, returnedAndLength, Operating, ToldValue, ToldVerdict, Generating}
 
 module _ {n : ℕ} {c : ℕ} {v : List ℕ} {l : List ℕ} {h : List ℕ} {ranged : Bool} {f : Fn n} {v₁ : List ℕ} {l₁ : List ℕ} {h₁ : List ℕ} {s₁ : ℕ} {o₁ : List ℕ} {v₂ : List ℕ} {l₂ : List ℕ} {h₂ : List ℕ} {s₂ : ℕ} {o₂ : List ℕ} where
   pub operating-unique : Operating n c v l h ranged f v₁ l₁ h₁ s₁ o₁ → Operating n c v l h ranged f v₂ l₂ h₂ s₂ o₂ →
@@ -26,6 +27,10 @@ module _ {n : ℕ} {c : ℕ} {v : List ℕ} {l : List ℕ} {h : List ℕ} {range
 pub told-value-unique : {a : Valued} {s₁ : ℕ} {o₁ : List ℕ} {s₂ : ℕ} {o₂ : List ℕ} → ToldValue a s₁ o₁ → ToldValue a s₂ o₂ →
     (s₁ ≡ s₂) × (o₁ ≡ o₂)
 told-value-unique p q = (p .refusal ∙ sym (q .refusal), p .numbers ∙ sym (q .numbers))
+
+pub told-verdict-unique : {a : Judged} {s₁ : ℕ} {o₁ : List ℕ} {s₂ : ℕ} {o₂ : List ℕ} → ToldVerdict a s₁ o₁ → ToldVerdict a s₂ o₂ →
+    (s₁ ≡ s₂) × (o₁ ≡ o₂)
+told-verdict-unique p q = (p .refusal ∙ sym (q .refusal), p .numbers ∙ sym (q .numbers))
 
 module _ {n : ℕ} {c : ℕ} {v : List ℕ} {l : List ℕ} {h : List ℕ} {a : ℕ} {b : ℕ} {room : List ℕ} {v₁ : List ℕ} {l₁ : List ℕ} {h₁ : List ℕ} {room₁ : List ℕ} {s₁ : ℕ} {o₁ : List ℕ} {v₂ : List ℕ} {l₂ : List ℕ} {h₂ : List ℕ} {room₂ : List ℕ} {s₂ : ℕ} {o₂ : List ℕ} where
   pub generating-unique : Generating n c v l h a b room v₁ l₁ h₁ room₁ s₁ o₁ → Generating n c v l h a b room v₂ l₂ h₂ room₂ s₂ o₂ →

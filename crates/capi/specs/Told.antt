@@ -10,6 +10,8 @@ use Rattle.graph.specs.declared.entry.Valued.{Valued}
 use Rattle.list.specs.Entry.{Generates}
 use Rattle.list.specs.Entry as list
 use Rattle.list.specs.declared.entry.Generated.{Generated}
+use Rattle.checker.specs.declared.judged.Judged.{Judged}
+use Rattle.checker.specs.declared.judged.Judged.the-variants as judged
 
 -- What the array of an operation holds: the root, then the count of records in use.
 unfoldable pub rootAndCount : Answer → List ℕ
@@ -22,6 +24,26 @@ valueAlone a = cond (valueOf a .1) 1 0 ∷ []
 -- What the array of the generator holds: what a refusal returns, then the length of the list.
 unfoldable pub returnedAndLength : Generated → List ℕ
 returnedAndLength a = list.numbersOf a .returned ∷ list.numbersOf a .length ∷ []
+
+-- What is told of a check: the refusal or 0; the kind of the verdict (0 accept, 1 off, 2 missing, 3 literal, 4 cube), or
+-- at a refusal what it returns; and the verdict's values in document 01's order, 0 for each that it lacks.
+pub record VerdictNumbers : Type 0 where
+  pub refusal : ℕ
+  pub kind : ℕ
+  pub value₁ : ℕ
+  pub value₂ : ℕ
+
+unfoldable pub verdictNumbersOf : Judged → VerdictNumbers
+verdictNumbersOf judged.Accept = record { refusal = 0; kind = 0; value₁ = 0; value₂ = 0 }
+verdictNumbersOf (judged.Off c p) = record { refusal = 0; kind = 1; value₁ = c; value₂ = p }
+verdictNumbersOf (judged.Missing p) = record { refusal = 0; kind = 2; value₁ = p; value₂ = 0 }
+verdictNumbersOf (judged.Literal c k) = record { refusal = 0; kind = 3; value₁ = c; value₂ = k }
+verdictNumbersOf (judged.Cube c) = record { refusal = 0; kind = 4; value₁ = c; value₂ = 0 }
+verdictNumbersOf (judged.Refused r x) = record { refusal = r; kind = x; value₁ = 0; value₂ = 0 }
+
+-- What the array of the checker holds: the kind, then the two values.
+unfoldable pub kindAndValues : Judged → List ℕ
+kindAndValues a = verdictNumbersOf a .kind ∷ verdictNumbersOf a .value₁ ∷ verdictNumbersOf a .value₂ ∷ []
 
 -- The status is the answer's refusal or 0, and the array holds its other numbers.
 pub record Told (a : Answer) (status : ℕ) (out : List ℕ) : Type 0 where
@@ -37,6 +59,11 @@ pub record ToldValue (a : Valued) (status : ℕ) (out : List ℕ) : Type 0 where
 pub record ToldList (a : Generated) (status : ℕ) (out : List ℕ) : Type 0 where
   pub refusal : status ≡ list.numbersOf a .refusal
   pub numbers : out ≡ returnedAndLength a
+
+-- The same of a check.
+pub record ToldVerdict (a : Judged) (status : ℕ) (out : List ℕ) : Type 0 where
+  pub refusal : status ≡ verdictNumbersOf a .refusal
+  pub numbers : out ≡ kindAndValues a
 
 -- An operation that builds, with the result f: an answer that it allows is told.
 pub record Operating (n : ℕ) (c : ℕ) (v : List ℕ) (l : List ℕ) (h : List ℕ) (ranged : Bool) (f : Fn n) (v′ : List ℕ) (l′ : List ℕ) (h′ : List ℕ) (status : ℕ) (out : List ℕ) : Type 0 where

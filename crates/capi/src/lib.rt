@@ -4,3 +4,4 @@ pub mod generator;
 pub mod operation;
 mod told;
 pub mod value;
+pub mod verdict;

@@ -1,5 +1,6 @@
 // Answers told in numbers.
-ghost use Rattle.capi.specs.Told.{Told, ToldValue, ToldList};
+ghost use Rattle.capi.specs.Told.{Told, ToldValue, ToldList, ToldVerdict};
+use checker::judged::Judged;
 use graph::entry::Answer;
 use graph::entry::Valued;
 use list::entry::Generated;
@@ -48,6 +49,38 @@ pub fn tell_list(answer: Generated, out: &mut [u64; 2]) -> u16
         }
         Generated::Refused(number, returned) => {
             *out = [returned as u64, 0];
+            number
+        }
+    }
+}
+
+// The status of a check; the kind of its verdict, or what a refusal returns, and two values go into the array.
+pub fn tell_verdict(answer: Judged, out: &mut [u64; 3]) -> u16
+    ensures { λ r. ⌜ ToldVerdict answer r (now (out .exit)) ⌝ }
+{
+    match answer {
+        Judged::Accept => {
+            *out = [0, 0, 0];
+            refusal::DONE
+        }
+        Judged::Off(cube, point) => {
+            *out = [1, cube as u64, point as u64];
+            refusal::DONE
+        }
+        Judged::Missing(point) => {
+            *out = [2, point as u64, 0];
+            refusal::DONE
+        }
+        Judged::Literal(cube, column) => {
+            *out = [3, cube as u64, column as u64];
+            refusal::DONE
+        }
+        Judged::Cube(cube) => {
+            *out = [4, cube as u64, 0];
+            refusal::DONE
+        }
+        Judged::Refused(number, returned) => {
+            *out = [returned as u64, 0, 0];
             number
         }
     }

@@ -1,5 +1,6 @@
 //! Functions with don't cares, as a lower root within an upper one, and tables that hold them.
 
+use crate::check::Check;
 use crate::generation::Generation;
 use crate::random::Random;
 use crate::tables::{good, lent};
@@ -149,6 +150,28 @@ impl Laid {
 
     pub fn count(&self) -> usize {
         self.in_use.len()
+    }
+
+    /// The function of on points and the one of on and don't-care points.
+    pub fn roots(&self) -> &Roots {
+        &self.roots
+    }
+
+    /// The list of the second program.
+    pub fn list(&self) -> Vec<u32> {
+        list::list(&self.roots.0, &self.roots.1)
+    }
+
+    /// A check of a list, with a table of so many records; past those in use stands anything.
+    pub fn checked(&self, random: &mut Random, records: usize, list: Vec<u32>) -> Check {
+        Check {
+            columns: self.columns as u16,
+            table: lent(random, &self.in_use, records),
+            count: self.count(),
+            lower: self.lower,
+            upper: self.upper,
+            list,
+        }
     }
 
     /// The list of the second program, and the records that its generation needs.

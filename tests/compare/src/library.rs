@@ -96,6 +96,21 @@ extern "C" {
         cubes: usize,
         out: *mut [u64; 2],
     ) -> u16;
+    fn dowrhesk_check(
+        columns: u16,
+        level: *const u16,
+        levels: usize,
+        low: *const u16,
+        lows: usize,
+        high: *const u16,
+        highs: usize,
+        count: usize,
+        lower: u16,
+        upper: u16,
+        list: *const u32,
+        cubes: usize,
+        out: *mut [u64; 3],
+    ) -> u16;
 }
 
 /// What the arrays hold before a call, so that an answer that was not written is noticed.
@@ -122,6 +137,15 @@ pub struct Generated {
     pub status: u16,
     pub returned: u64,
     pub length: u64,
+}
+
+/// The answer of the checker: the kind of the verdict, or what a refusal returns, and the verdict's
+/// values in document 01's order, 0 for each that it lacks.
+#[derive(Clone, Copy, PartialEq, Eq, Debug)]
+pub struct Checked {
+    pub status: u16,
+    pub kind: u64,
+    pub values: [u64; 2],
 }
 
 pub fn and(
@@ -292,5 +316,43 @@ pub fn generate(
         status,
         returned,
         length,
+    }
+}
+
+#[allow(clippy::too_many_arguments)]
+pub fn check(
+    columns: u16,
+    level: &[u16],
+    low: &[u16],
+    high: &[u16],
+    count: usize,
+    lower: u16,
+    upper: u16,
+    list: &[u32],
+) -> Checked {
+    let mut out = [UNWRITTEN; 3];
+    // Safety: as in `of_two_roots`; what is lent to be read is not written.
+    let status = unsafe {
+        dowrhesk_check(
+            columns,
+            level.as_ptr(),
+            level.len(),
+            low.as_ptr(),
+            low.len(),
+            high.as_ptr(),
+            high.len(),
+            count,
+            lower,
+            upper,
+            list.as_ptr(),
+            list.len(),
+            &mut out,
+        )
+    };
+    let [kind, values @ ..] = out;
+    Checked {
+        status,
+        kind,
+        values,
     }
 }

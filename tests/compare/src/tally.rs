@@ -1,11 +1,35 @@
 //! How many calls of each kind a test has made, so that no kind is left out in silence.
 
 use crate::call::{Asked, Call, Outcome};
+use crate::check::{Check, Judged};
 use crate::generation::{Generation, Listed};
 use std::collections::BTreeMap;
 
 /// What a generation is counted as, beside the operations.
 const GENERATE: &str = "generate";
+/// And what a check is counted as.
+const CHECK: &str = "check";
+
+/// A name for each number of columns.
+pub const COLUMNS: [&str; 17] = [
+    "0 columns",
+    "1 column",
+    "2 columns",
+    "3 columns",
+    "4 columns",
+    "5 columns",
+    "6 columns",
+    "7 columns",
+    "8 columns",
+    "9 columns",
+    "10 columns",
+    "11 columns",
+    "12 columns",
+    "13 columns",
+    "14 columns",
+    "15 columns",
+    "16 columns",
+];
 
 #[derive(Default)]
 pub struct Tally {
@@ -44,6 +68,20 @@ impl Tally {
         self.count(kind, GENERATE);
     }
 
+    /// Makes a check of a kind, by both programs, and counts it, and its answer.
+    pub fn check(&mut self, kind: &'static str, check: &Check) -> Judged {
+        let judged = check.judged();
+        self.note_check(kind);
+        self.note_check(judged.name());
+        self.calls += 1;
+        judged
+    }
+
+    /// Counts one more thing that is so of a check.
+    pub fn note_check(&mut self, kind: &'static str) {
+        self.count(kind, CHECK);
+    }
+
     fn count(&mut self, kind: &'static str, operation: &'static str) {
         *self.counts.entry((kind, operation)).or_default() += 1;
     }
@@ -65,6 +103,11 @@ impl Tally {
     /// The same for generations.
     pub fn assert_generated(&self, kinds: &[&'static str], least: usize) {
         self.assert_each(kinds, &[GENERATE], least);
+    }
+
+    /// The same for checks; a kind may be the name of an answer.
+    pub fn assert_checked(&self, kinds: &[&'static str], least: usize) {
+        self.assert_each(kinds, &[CHECK], least);
     }
 
     /// The same for every operation.

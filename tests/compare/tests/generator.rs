@@ -4,7 +4,7 @@
 use compare::functions::{by_signs, Laid, Making, Roots};
 use compare::random::Random;
 use compare::tables::good;
-use compare::tally::Tally;
+use compare::tally::{Tally, COLUMNS};
 use second::refusal::{DONE, LIST_ROOM_LACKING, NODE_ROOM_LACKING};
 use second::refusal::{MOST_CUBES, MOST_RECORDS};
 use std::collections::HashSet;
@@ -69,27 +69,6 @@ const EVERY_KIND: [&str; 8] = [
     "list room one short",
     "no list room",
     "both one short",
-];
-
-/// A name for each number of columns.
-const COLUMNS: [&str; 17] = [
-    "0 columns",
-    "1 column",
-    "2 columns",
-    "3 columns",
-    "4 columns",
-    "5 columns",
-    "6 columns",
-    "7 columns",
-    "8 columns",
-    "9 columns",
-    "10 columns",
-    "11 columns",
-    "12 columns",
-    "13 columns",
-    "14 columns",
-    "15 columns",
-    "16 columns",
 ];
 
 /// The functions that were generated, none counted twice.
