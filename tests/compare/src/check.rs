@@ -99,7 +99,8 @@ impl Check {
         proved
     }
 
-    fn by_library(&self) -> Judged {
+    /// The answer of the proved library.
+    pub fn by_library(&self) -> Judged {
         let checked = library::check(
             self.columns,
             &self.table.level,
@@ -117,7 +118,8 @@ impl Check {
         }
     }
 
-    fn by_second(&self) -> Judged {
+    /// The answer of the second program.
+    pub fn by_second(&self) -> Judged {
         match self.table.records() {
             Some(records) => self.by_second_on(&records),
             None => self.lengths_differ(),

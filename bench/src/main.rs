@@ -1,0 +1,128 @@
+//! Measures the checker on the greatest lists. Without a word it times the proved library and the
+//! second program in one run, on the same input, and tells the ratio. With the name of a list, and
+//! with `library` or `second`, it judges that list once, for counting instructions.
+
+use compare::check::{Check, Judged, ACCEPT, CUBE};
+use compare::functions::{by_signs, Laid};
+use compare::random::Random;
+use std::env;
+use std::process::ExitCode;
+use std::time::{Duration, Instant};
+
+/// A list for a function of 16 columns, and the verdict on it.
+struct Case {
+    name: &'static str,
+    sign: fn(u32) -> u8,
+    rows: fn() -> Vec<u32>,
+    verdict: (u64, [u64; 2]),
+}
+
+const CASES: [Case; 3] = [
+    Case {
+        name: "threshold",
+        sign: at_least_eight,
+        rows: choices_of_eight,
+        verdict: (ACCEPT, [0, 0]),
+    },
+    Case {
+        name: "dashes",
+        sign: |_| b'1',
+        rows: || vec![0; 16_384],
+        verdict: (CUBE, [1, 0]),
+    },
+    Case {
+        name: "points",
+        sign: |point| b"01"[usize::from(odd(point & 0x7fff) && point >> 15 == 1)],
+        rows: odd_points,
+        verdict: (ACCEPT, [0, 0]),
+    },
+];
+
+fn odd(point: u32) -> bool {
+    point.count_ones() % 2 == 1
+}
+
+fn at_least_eight(point: u32) -> u8 {
+    b"01"[usize::from(point.count_ones() >= 8)]
+}
+
+/// 12,870 rows of eight literals.
+fn choices_of_eight() -> Vec<u32> {
+    let numbers = 0..1 << 16;
+    numbers.filter(|row: &u32| row.count_ones() == 8).collect()
+}
+
+/// 16,384 rows without a dash: the points with the last column 1 and an odd number of others.
+fn odd_points() -> Vec<u32> {
+    let points = (0..1 << 15).filter(|&point| odd(point));
+    points
+        .map(|point| point | 1 << 15 | (!point & 0x7fff) << 16)
+        .collect()
+}
+
+impl Case {
+    fn check(&self) -> Check {
+        let laid = Laid::over(&mut Random::new(1), 16, &[], by_signs(16, self.sign));
+        laid.checked(&mut Random::new(2), laid.count(), (self.rows)())
+    }
+
+    fn right(&self, judged: Judged) {
+        let (kind, values) = self.verdict;
+        assert_eq!(judged, Judged::verdict(kind, values), "{}", self.name);
+    }
+
+    /// The least time of some runs.
+    fn time(&self, judge: impl Fn() -> Judged) -> Duration {
+        let run = |_| {
+            let begun = Instant::now();
+            self.right(judge());
+            begun.elapsed()
+        };
+        (0..5).map(run).min().unwrap()
+    }
+
+    fn compare(&self) {
+        let check = self.check();
+        let proved = self.time(|| check.by_library());
+        let second = self.time(|| check.by_second());
+        let ratio = second.as_secs_f64() / proved.as_secs_f64();
+        let rows = check.list.len();
+        println!(
+            "{:10} {rows:6} rows  library {proved:>10.2?}  second {second:>10.2?}  ratio {ratio:.2}",
+            self.name
+        );
+    }
+}
+
+fn main() -> ExitCode {
+    let words: Vec<String> = env::args().skip(1).collect();
+    let named = |name: &String| CASES.iter().find(|case| case.name == name);
+    match &words[..] {
+        [] => CASES.iter().for_each(Case::compare),
+        [name, who] if named(name).is_some() && (who == "library" || who == "second") => {
+            let case = named(name).unwrap();
+            let check = case.check();
+            case.right(match who.as_str() {
+                "library" => check.by_library(),
+                _ => check.by_second(),
+            });
+        }
+        _ => {
+            eprintln!("bench [LIST library|second]");
+            return ExitCode::FAILURE;
+        }
+    }
+    ExitCode::SUCCESS
+}
+
+#[cfg(test)]
+mod tests {
+    use super::CASES;
+
+    #[test]
+    fn both_give_the_verdict() {
+        for case in CASES {
+            case.right(case.check().judged());
+        }
+    }
+}
