@@ -1,5 +1,5 @@
 //! Lists that another tool made: `SOPform` of SymPy 1.14.0, a Quine-McCluskey minimiser. Each line of
-//! the data has the columns, the sign of each point in reading order, and the rows.
+//! the data, which `data/sopform.py` writes, has the columns, the sign of each point in reading order, and the rows.
 
 use compare::check::Judged;
 use compare::functions::{by_signs, Laid};
@@ -26,7 +26,8 @@ fn verdict(line: &str, tally: &mut Tally) -> Judged {
     tally.check("foreign", &check)
 }
 
-/// That tool minimises, so each of its lists keeps the four conditions.
+/// Both programs accept each of them. The expectation is what both were seen to answer: that tool
+/// does not promise the four conditions, so an accept here is agreement and no proof.
 #[test]
 fn lists_of_another_tool() {
     let mut tally = Tally::new();
