@@ -15,3 +15,4 @@ pub mod Refusals
 pub mod Clearing
 pub mod Entries
 pub mod Values
+pub mod Runs

@@ -4,4 +4,5 @@ pub mod Table
 pub mod Sound
 pub mod Operation
 pub mod Built
+pub mod Run
 pub mod Entry

@@ -70,6 +70,16 @@ pub fn clear_from(s: &mut [u16], from: usize)
     }
 }
 
+// The records past the first `kept` are given back: they become zero.
+pub fn give_back(level: &mut [u16], low: &mut [u16], high: &mut [u16], kept: usize)
+    requires { ⌜ (kept ≤ length (now level)) × (kept ≤ length (now low)) × (kept ≤ length (now high)) ⌝ }
+    ensures { λ r. ⌜ (now (level .exit) ≡ cleared kept (now (level .entry))) × (now (low .exit) ≡ cleared kept (now (low .entry))) × (now (high .exit) ≡ cleared kept (now (high .entry))) ⌝ }
+{
+    clear_from(level, kept);
+    clear_from(low, kept);
+    clear_from(high, kept);
+}
+
 // The answer to what was made, with the records past the count cleared.
 fn settle(level: &mut [u16], low: &mut [u16], high: &mut [u16], count: usize, made: Made) -> Answer
     requires { ⌜ (countAfter made count ≤ length (now level)) × (countAfter made count ≤ length (now low)) × (countAfter made count ≤ length (now high)) ⌝ }

@@ -24,12 +24,12 @@ use Rattle.graph.specs.declared.build.Made.{Made}
 use Rattle.graph.specs.declared.build.Made.the-variants as made
 use Rattle.graph.proofs.Tests.{constant-refers}
 use Rattle.graph.proofs.Numbers.{fn-zero, fn-one, equal-numbers}
-use Rattle.list.specs.Run.{Run, Short, Names}
+use Rattle.graph.specs.Run.{Run, Short, Names}
 use Rattle.list.specs.Generating.{numbersUnder, namedC, namedRest, namedB, namedA, namedKept, ThreeRoots, Listable, Expandable, ListsDone, ListsFull, ListsOf, ListedDone, ListedFull, ListedOf}
 use Rattle.list.specs.declared.generator.Lists.{Lists}
 use Rattle.list.specs.declared.generator.Lists.the-variants as lists
 use Rattle.list.specs.declared.generator.Listed.the-variants as listed
-use Rattle.list.proofs.Runs.{run-none, run-then, run-short, short-more, built-run, built-names, lacking-short}
+use Rattle.graph.proofs.Runs.{run-none, run-then, run-short, short-more, built-run, built-names, lacking-short}
 
 -- A list that is known, with what it names and covers: its promise over that list is one over the rule's.
 pub known-list : {n : ℕ} {c : ℕ} {v : List ℕ} {l : List ℕ} {h : List ℕ} {v′ : List ℕ} {l′ : List ℕ} {h′ : List ℕ} (room : List ℕ) (room′ : List ℕ) (at : ℕ) (chosen : ℕ) (w : ℕ) (k : ℕ) (m : ℕ) (L : Fn m) (U : Fn m) (cs : List Cube) (ts : List Tree) (g : ℕ) (c′ : ℕ) (at′ : ℕ) → listOf m L U ≡ cs → named m L U ≡ ts →

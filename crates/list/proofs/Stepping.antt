@@ -19,12 +19,13 @@ use Rattle.graph.specs.declared.build.Made.{Made}
 use Rattle.graph.specs.declared.build.Made.the-variants as made
 use Rattle.graph.proofs.Numbers.{half-refers}
 use Rattle.graph.proofs.Agree.{agree-through}
-use Rattle.list.specs.Run.{Run, Short, Names, FourRoots, TwoDone, TwoOf, resultOf}
+use Rattle.graph.specs.Run.{Run, Short, Names}
+use Rattle.list.specs.Run.{FourRoots, TwoDone, TwoOf, resultOf}
 use Rattle.list.specs.Generating.{Stepping, namedKept, KeptOf, SixRoots, namedLeft, RestOf, ThreeRoots}
 use Rattle.list.specs.declared.run.Both.{Both}
 use Rattle.list.specs.declared.run.Both.the-variants as both
 use Rattle.list.specs.declared.step.Kept.the-variants as kept
-use Rattle.list.proofs.Runs.{run-then, run-short, names-stay, short-more}
+use Rattle.graph.proofs.Runs.{run-then, run-short, names-stay, short-more}
 
 -- The operation of two named numbers is that of what they name.
 pub result-names : {v : List ℕ} {l : List ℕ} {h : List ℕ} {c : ℕ} {k : ℕ} {m : ℕ} {f : Fn m} {g : Fn m} {a : ℕ} {b : ℕ} (op : Op) → Names v l h c k m f a → Names v l h c k m g b → resultOf op v l h k m a b ≡ joined (opOf op) m f g

@@ -12,7 +12,7 @@ use Rattle.rule.specs.Nodes.{Tree, nodes, named}
 use Rattle.rule.specs.Rule.{P0, P1, G0, G1, R0, R1, R0orR1, U0andU1, G*, listOf, result}
 use Rattle.graph.specs.Table.{tableOf, fnOf, refers}
 use Rattle.graph.specs.Sound.{Sound, RootedTwice}
-use Rattle.list.specs.Run.{Run, Short, Names}
+use Rattle.graph.specs.Run.{Run, Short, Names}
 use Rattle.list.specs.declared.run.Both.{Both}
 use Rattle.list.specs.declared.run.Both.the-variants as both
 use Rattle.list.specs.declared.step.Kept.{Kept}

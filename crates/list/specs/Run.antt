@@ -1,38 +1,15 @@
--- Runs: what operations on a table one after the other promise together.
-use mathlib.Core.Path.{_≡_}
-use mathlib.Core.Bool.{true}
+-- Two operations one after the other: what they ask and promise together.
 use mathlib.Core.List.{List, _++_}
-use Prim.Native.Nat.{ℕ, _<_, _≤_}
-use lib.ListN.{length}
+use Prim.Native.Nat.{ℕ}
 use Rattle.rule.specs.Func.{Fn, joined}
-use Rattle.rule.specs.Nodes.{Tree, nodes, addAll}
-use Rattle.graph.specs.Table.{tableOf, fnOf, refers, functions, Agree}
-use Rattle.graph.specs.Sound.{Sound, Sized, RootedTwice}
+use Rattle.rule.specs.Nodes.{nodes}
+use Rattle.graph.specs.Table.{tableOf, fnOf}
+use Rattle.graph.specs.Sound.{RootedTwice}
+use Rattle.graph.specs.Run.{Run, Short, Names}
 use Rattle.graph.specs.Operation.{opOf}
 use Rattle.graph.specs.declared.operation.Op.{Op}
 use Rattle.list.specs.declared.run.Both.{Both}
 use Rattle.list.specs.declared.run.Both.the-variants.{Done, Full}
-
-module _ (n : ℕ) (c : ℕ) (v : List ℕ) (l : List ℕ) (h : List ℕ) (v′ : List ℕ) (l′ : List ℕ) (h′ : List ℕ) where
-  -- The table is sound, the records in use before are kept, and exactly the missing ones of some functions are added.
-  pub record Run (ts : List Tree) (c′ : ℕ) : Type 0 where
-    pub sound : Sound n c′ v′ l′ h′
-    pub length-kept : length v′ ≡ length v
-    pub more : c ≤ c′
-    pub kept : Agree (tableOf v l h) (tableOf v′ l′ h′) c
-    pub adds : functions n (tableOf v′ l′ h′) c′ ≡ addAll (functions n (tableOf v l h) c) ts
-
-  -- These do not fit. The records in use before are kept.
-  pub record Short (ts : List Tree) : Type 0 where
-    pub sized : Sized c v′ l′ h′
-    pub length-kept : length v′ ≡ length v
-    pub kept : Agree (tableOf v l h) (tableOf v′ l′ h′) c
-    pub lacks : length v < length (addAll (functions n (tableOf v l h) c) ts)
-
--- A number in use over the m columns from column k on, and its function.
-pub record Names (v : List ℕ) (l : List ℕ) (h : List ℕ) (c : ℕ) (k : ℕ) (m : ℕ) (f : Fn m) (x : ℕ) : Type 0 where
-  pub number : refers (tableOf v l h) c k x ≡ true
-  pub means : fnOf (tableOf v l h) k m x ≡ f
 
 -- What two operations ask: both pairs of operands are in use.
 pub record FourRoots (n : ℕ) (c : ℕ) (v : List ℕ) (l : List ℕ) (h : List ℕ) (k : ℕ) (a : ℕ) (b : ℕ) (d : ℕ) (e : ℕ) : Type 0 where

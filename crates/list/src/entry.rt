@@ -1,9 +1,8 @@
 // The entry of the generator: every input is answered, bad ones by document 01's numbers.
 ghost use mathlib.Core.Path.{_≡_};
-ghost use Prim.Native.Nat.{ℕ, _≤_};
+ghost use Prim.Native.Nat.{ℕ};
 ghost use lib.ListN.{length, replicate};
 ghost use Rattle.rule.specs.Refusal.{firstBroken};
-ghost use Rattle.graph.specs.Entry.{cleared};
 ghost use Rattle.list.specs.Entry.{inputConditions, Generates};
 use crate::generator;
 use crate::generator::Listed;
@@ -60,16 +59,6 @@ fn clear_room(room: &mut [u32])
     }
 }
 
-// The work records are given back: all records past the count become zero.
-fn give_back(level: &mut [u16], low: &mut [u16], high: &mut [u16], count: usize)
-    requires { ⌜ (count ≤ length (now level)) × (count ≤ length (now low)) × (count ≤ length (now high)) ⌝ }
-    ensures { λ r. ⌜ (now (level .exit) ≡ cleared count (now (level .entry))) × (now (low .exit) ≡ cleared count (now (low .entry))) × (now (high .exit) ≡ cleared count (now (high .entry))) ⌝ }
-{
-    entry::clear_from(level, count);
-    entry::clear_from(low, count);
-    entry::clear_from(high, count);
-}
-
 // The list of the rule for a lower and an upper root.
 pub fn generate(
     columns: u16,
@@ -102,7 +91,7 @@ pub fn generate(
         lower,
         upper,
     );
-    give_back(level, low, high, count);
+    entry::give_back(level, low, high, count);
     let Listed::Done(_, _, length) = listed else {
         clear_room(room);
         return Generated::Refused(refusal::NODES_LACK, 0);
