@@ -5,4 +5,5 @@ pub mod Written
 pub mod Judging
 pub mod Taken
 pub mod FaultLines
+pub mod Legal
 pub mod RoundTrip
