@@ -1,4 +1,5 @@
 -- The meaning of whole texts, one concept to a file.
+pub mod Reader
 pub mod Outcome
 pub mod Legal
 pub mod Judged
