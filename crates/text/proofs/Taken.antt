@@ -14,9 +14,8 @@ use Rattle.rule.specs.Refusal.{Condition, firstBroken}
 use Rattle.rule.specs.Rows as Rows
 use Rattle.rule.proofs.Number.{cubeNumber-signs}
 use Rattle.rule.proofs.Bools.{clash}
-use Rattle.line.specs.Bytes.{isNewline, until, split, lines}
+use Rattle.line.specs.Bytes.{split, lines}
 use Rattle.line.specs.Meaning.{meaning, isEnd, kindOf, rowOf}
-use Rattle.line.proofs.Fields.{lines-unroll}
 use Rattle.line.proofs.Lines.{row-fine}
 use Rattle.line.specs.declared.meaning.Kind.{Kind}
 use Rattle.line.specs.declared.meaning.Out.{Out}
@@ -31,8 +30,10 @@ use Rattle.text.specs.declared.judge.Step.{Step}
 use Rattle.text.specs.declared.judge.Step.the-variants.{On, Fault, Ended}
 use Rattle.text.specs.declared.judge.Judged.{Judged}
 use Rattle.text.specs.declared.judge.Judged.the-variants.{Good, Faulty}
+use Rattle.text.specs.declared.reader.Taken.{Taken}
 use Rattle.text.specs.declared.candidate.Candidate.{Candidate}
 use Rattle.text.specs.declared.candidate.Candidate.the-variants.{Done, Refused}
+use Rattle.text.proofs.Places.{Took}
 
 -- A row's cube is put, and other lines put nothing.
 module _ (room : List ℕ) (i : ℕ) (l : Line) where
@@ -48,21 +49,19 @@ module _ (text : List ℕ) (at : ℕ) where
   unfolding lines split rowNumbers
   rows-over h = ap (λ t. rowNumbers (lines t)) (drop-of-length-le text h)
 
-  module _ (h : at < length text) (line : List ℕ) (l : line ≡ until isNewline (drop at text))
-      (told : Line) (m : told ≡ meaning line) where
+  module _ (w : Taken) (t : Took text at w) where
     unrolled : rowNumbers (lines (drop at text))
-        ≡ cond (isEnd told) [] (rowNumber told ++ rowNumbers (lines (drop (at + length line + 1) text)))
+        ≡ cond (isEnd (w .line)) [] (rowNumber (w .line) ++ rowNumbers (lines (drop (w .next) text)))
     unfolding rowNumbers
     unrolled =
-        ap rowNumbers (lines-unroll text at h) ∙
-        ap (λ u. rowNumbers (u ∷ lines (drop (at + length u + 1) text))) (sym l) ∙
-        ap (λ t. cond (isEnd t) [] (rowNumber t ++ rowNumbers (lines (drop (at + length line + 1) text)))) (sym m)
+        ap rowNumbers (t .unrolls) ∙
+        ap (λ l. cond (isEnd l) [] (rowNumber l ++ rowNumbers (lines (drop (w .next) text)))) (sym (t .means))
 
-    pub rows-end : isEnd told ≡ true → rowNumbers (lines (drop at text)) ≡ []
+    pub rows-end : isEnd (w .line) ≡ true → rowNumbers (lines (drop at text)) ≡ []
     rows-end e = unrolled ∙ rw e
 
-    pub rows-on : isEnd told ≡ false
-        → rowNumbers (lines (drop at text)) ≡ rowNumber told ++ rowNumbers (lines (drop (at + length line + 1) text))
+    pub rows-on : isEnd (w .line) ≡ false
+        → rowNumbers (lines (drop at text)) ≡ rowNumber (w .line) ++ rowNumbers (lines (drop (w .next) text))
     rows-on e = unrolled ∙ rw e
 
 -- The rows of a good text are those of the second pass.
