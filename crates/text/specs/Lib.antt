@@ -5,3 +5,4 @@ pub mod Example
 pub mod Room
 pub mod Writing
 pub mod Candidate
+pub mod Function

@@ -1,0 +1,2 @@
+-- What has been named of a text's rows.
+pub mod Naming
