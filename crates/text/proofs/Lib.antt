@@ -4,5 +4,8 @@ pub mod Room
 pub mod Written
 pub mod Judging
 pub mod Taken
+pub mod Reading
+pub mod Naming
+pub mod Settling
 pub mod FaultLines
 pub mod RoundTrip

@@ -74,7 +74,7 @@ unfolding legal
 legal-goes true t e = let x : _≡_ {A = ℕ} 0 1 = cc in absurd-step e x
 legal-goes false t e = let x : _≡_ {A = ℕ} 0 1 = cc in absurd-step e x
 
-ended-is-end : (asked : ℕ) (s : State) (l : Line) → step asked s l ≡ Ended → isEnd l ≡ true
+pub ended-is-end : (asked : ℕ) (s : State) (l : Line) → step asked s l ≡ Ended → isEnd l ≡ true
 unfolding step isEnd
 ended-is-end asked s Empty e = let x : _≡_ {A = ℕ} 0 1 = cc in absurd-step e x
 ended-is-end asked s (Columns n) e = legal-goes _ _ e
@@ -85,7 +85,7 @@ ended-is-end asked s (Row n x o) e = legal-goes _ _ e
 ended-is-end asked s End e = refl
 ended-is-end asked s Bad e = let x : _≡_ {A = ℕ} 0 1 = cc in absurd-step e x
 
-on-is-not-end : (asked : ℕ) (s s′ : State) (l : Line) → step asked s l ≡ On s′ → isEnd l ≡ false
+pub on-is-not-end : (asked : ℕ) (s s′ : State) (l : Line) → step asked s l ≡ On s′ → isEnd l ≡ false
 unfolding step isEnd
 on-is-not-end asked s s′ Empty e = refl
 on-is-not-end asked s s′ (Columns n) e = refl
@@ -146,7 +146,7 @@ good-rows asked s k (l ∷ ls) g =
     go Ended e f h = finished s k ∙ rw (ended-is-end asked s (meaning l) e)
 
 -- What a text's shape says of its outcome.
-faulty-outcome : (w : Outcome) (k : ℕ) → Faulty k ≡ judged w → w ≡ fault k
+pub faulty-outcome : (w : Outcome) (k : ℕ) → Faulty k ≡ judged w → w ≡ fault k
 unfolding judged judgedPlus
 faulty-outcome (good n t rs) k e = let x : _≡_ {A = ℕ} 0 1 = cc in let y : ⊥ = omega arith in absurd y
 faulty-outcome (fault j) k e = let f : k ≡ j = cc in ap fault (sym f)
