@@ -1,88 +1,97 @@
+-- `text::function::name_rows` meets its contract. The loop's invariant: the rows before the place are named, and with those of what is
+-- left of the text they are all. The measure is what is left of the text.
+use mathlib.Core.Path.{_≡_, refl, sym, _∙_}
+use Prim.Native.Nat.{_≤_, _+_, _-_}
+use native.Mathlib.Omega.{arith}
+use lib.ListN.{length}
+use Rattle.line.specs.Meaning.{kindOf}
+use Rattle.text.proofs.Naming.{sets-in-use, line-within, SoFar, starts, named-over, named-end, named-next, named-full}
+use borrow.Author.Needs.{needs}
 use Rattle.text.proofs.function.name_rows.Statement.{statement}
 use Rattle.text.proofs.function.name_rows.Tie as tie
-use Rattle.text.proofs.function.name_rows.Reads as reads
-use Rattle.text.proofs.function.name_rows.Lts as lts
-use Rattle.line.proofs.meaning.line_meaning.Reads as line-meaning-reads
-use Rattle.line.proofs.scan.line_at.Reads as line-at-reads
-use Rattle.text.proofs.candidate.ends.Reads as ends-reads
-use Rattle.text.proofs.function.name_line.Reads as name-line-reads
 
 abbrev Inv-loop : tie.InvT-loop
 Inv-loop text level₀ low₀ high₀ columns kind at₀ on₀ other₀ count₀ level low high at on other count =
-    ?
+    (length level ≡ length level₀) × (length low ≡ length low₀) × (length high ≡ length high₀) × (at ≤ length text + 1) ×
+    SoFar columns (kindOf kind) text at level low high on other count
 
 abbrev μ-loop : tie.MeasureT-loop
-μ-loop text level₀ low₀ high₀ columns kind at₀ on₀ other₀ count₀ level low high at on other count =
-    ?
+μ-loop text level₀ low₀ high₀ columns kind at₀ on₀ other₀ count₀ level low high at on other count = length text + 1 - at
 
 loop-holds : tie.Need-loop-holds Inv-loop μ-loop
-loop-holds c = ?
+loop-holds c = (refl, refl, refl, omega arith, starts (kindOf (c .before .before .before .before .args .kind)) (c .before .before .before .before .args .text .now) (c .before .before .before .before .pre .1))
 
 line-at-requires : tie.Need-line-at-requires Inv-loop μ-loop
-line-at-requires c κs = ?
+line-at-requires c κs = omega arith
 
 line-meaning-requires : tie.Need-line-meaning-requires Inv-loop μ-loop
-line-meaning-requires c κs = ?
+line-meaning-requires c κs = tt
 
 ends-requires : tie.Need-ends-requires Inv-loop μ-loop
-ends-requires c κs = ?
+ends-requires c κs = tt
 
 same-length : tie.Need-same-length Inv-loop μ-loop
-same-length c = ?
+same-length c = c .before .before .before .before .before .loop .inv .0
 
 same-length-2 : tie.Need-same-length-2 Inv-loop μ-loop
-same-length-2 c = ?
+same-length-2 c = c .before .before .before .before .before .loop .inv .1
 
 same-length-3 : tie.Need-same-length-3 Inv-loop μ-loop
-same-length-3 c = ?
+same-length-3 c = c .before .before .before .before .before .loop .inv .2
 
 returns : tie.Need-returns Inv-loop μ-loop
-returns c = ?
+returns c = named-end (c .before .before .before .before .before .loop .inv .4) (c .before .before .before .before .loop-test .taken) (c .before .before .before .line-at .result .now) (c .before .before .before .line-at .ensures) (c .before .before .line-meaning .result) (c .before .before .line-meaning .ensures) _ (c .before .before .before .before .before .loop .inv .0) (sym (c .before .ends .ensures) ∙ c .if1 .taken)
 
 name-line-requires : tie.Need-name-line-requires Inv-loop μ-loop
-name-line-requires c κs = ?
+name-line-requires c κs = sets-in-use (c .before .before .before .before .before .before .before .before .loop .inv .4 .named)
 
 enum-known-a : tie.Need-enum-known-a Inv-loop μ-loop
-enum-known-a c = ?
+enum-known-a c = search needs
 
 enum-told : tie.Need-enum-told Inv-loop μ-loop
-enum-told c = ?
+enum-told c = search needs
 
 same-length-4 : tie.Need-same-length-4 Inv-loop μ-loop
-same-length-4 c = ?
+same-length-4 c = c .before .before .before .before .before .before .before .before .name-line .kept .0 ∙ c .before .before .before .before .before .before .before .before .before .before .before .before .before .before .before .before .before .loop .inv .0
 
 same-length-5 : tie.Need-same-length-5 Inv-loop μ-loop
-same-length-5 c = ?
+same-length-5 c = c .before .before .before .before .before .before .before .before .name-line .kept .1 .0 ∙ c .before .before .before .before .before .before .before .before .before .before .before .before .before .before .before .before .before .loop .inv .1
 
 same-length-6 : tie.Need-same-length-6 Inv-loop μ-loop
-same-length-6 c = ?
+same-length-6 c = c .before .before .before .before .before .before .before .before .name-line .kept .1 .1 .0 ∙ c .before .before .before .before .before .before .before .before .before .before .before .before .before .before .before .before .before .loop .inv .2
 
 returns-2 : tie.Need-returns-2 Inv-loop μ-loop
-returns-2 c = ?
+returns-2 c = named-full (c .before .before .before .before .before .before .before .before .before .before .before .before .before .before .before .before .before .loop .inv .4) (c .before .before .before .before .before .before .before .before .before .before .before .before .before .before .before .before .loop-test .taken) (c .before .before .before .before .before .before .before .before .before .before .before .before .before .before .before .line-at .result .now) (c .before .before .before .before .before .before .before .before .before .before .before .before .before .before .before .line-at .ensures) (c .before .before .before .before .before .before .before .before .before .before .before .before .before .before .line-meaning .result) (c .before .before .before .before .before .before .before .before .before .before .before .before .before .before .line-meaning .ensures) (sym (c .before .before .before .before .before .before .before .before .before .before .before .before .before .ends .ensures) ∙ c .before .before .before .before .before .before .before .before .before .before .before .before .if1 .left) _ _ _ (c .before .before .before .before .before .before .before .before .name-line .result) (c .before .before .before .before .before .before .before .before .name-line .ensures) _ (c .before .before .before .before .before .before .before .before .before .before .before .before .before .before .before .before .before .loop .inv .0) (c .enum-told .given .1)
 
 add-at : tie.Need-add-at Inv-loop μ-loop
-add-at c = ?
+add-at c = omega (arith, c .before .before .before .before .before .before .before .before .before .before .before .before .before .before .before .before .before .before .before .before .before .before .before .pre .0, line-within (c .before .before .before .before .before .before .before .before .before .before .before .before .before .before .before .before .before .before .before .before .before .before .before .args .text .now) (c .before .before .before .before .before .before .before .before .before .before .before .before .before .before .before .before .before .before .loop .at) (c .before .before .before .before .before .before .before .before .before .before .before .before .before .before .before .before .line-at .result .now) (c .before .before .before .before .before .before .before .before .before .before .before .before .before .before .before .before .before .loop-test .taken) (c .before .before .before .before .before .before .before .before .before .before .before .before .before .before .before .before .line-at .ensures))
 
 add-at-2 : tie.Need-add-at-2 Inv-loop μ-loop
-add-at-2 c = ?
+add-at-2 c = omega (arith, c .before .before .before .before .before .before .before .before .before .before .before .before .before .before .before .before .before .before .before .before .before .before .before .pre .0, line-within (c .before .before .before .before .before .before .before .before .before .before .before .before .before .before .before .before .before .before .before .before .before .before .before .args .text .now) (c .before .before .before .before .before .before .before .before .before .before .before .before .before .before .before .before .before .before .loop .at) (c .before .before .before .before .before .before .before .before .before .before .before .before .before .before .before .before .line-at .result .now) (c .before .before .before .before .before .before .before .before .before .before .before .before .before .before .before .before .before .loop-test .taken) (c .before .before .before .before .before .before .before .before .before .before .before .before .before .before .before .before .line-at .ensures))
 
 loop-less : tie.Need-loop-less Inv-loop μ-loop
-loop-less c = ?
+loop-less c = omega (arith, line-within (c .before .before .before .before .before .before .before .before .before .before .before .before .before .before .before .before .before .before .before .before .before .before .before .args .text .now) (c .before .before .before .before .before .before .before .before .before .before .before .before .before .before .before .before .before .before .loop .at) (c .before .before .before .before .before .before .before .before .before .before .before .before .before .before .before .before .line-at .result .now) (c .before .before .before .before .before .before .before .before .before .before .before .before .before .before .before .before .before .loop-test .taken) (c .before .before .before .before .before .before .before .before .before .before .before .before .before .before .before .before .line-at .ensures))
 
 loop-again : tie.Need-loop-again Inv-loop μ-loop
-loop-again c = ?
+loop-again c = let g = named-next (c .before .before .before .before .before .before .before .before .before .before .before .before .before .before .before .before .before .before .loop .inv .4) (c .before .before .before .before .before .before .before .before .before .before .before .before .before .before .before .before .before .loop-test .taken) (c .before .before .before .before .before .before .before .before .before .before .before .before .before .before .before .before .line-at .result .now) (c .before .before .before .before .before .before .before .before .before .before .before .before .before .before .before .before .line-at .ensures) (c .before .before .before .before .before .before .before .before .before .before .before .before .before .before .before .line-meaning .result) (c .before .before .before .before .before .before .before .before .before .before .before .before .before .before .before .line-meaning .ensures) (sym (c .before .before .before .before .before .before .before .before .before .before .before .before .before .before .ends .ensures) ∙ c .before .before .before .before .before .before .before .before .before .before .before .before .before .if1 .left) _ _ _ (c .before .before .before .before .before .before .before .before .before .name-line .result) (c .before .before .before .before .before .before .before .before .before .name-line .ensures) (c .before .a .given .1) in (
+      g .0 ∙ c .before .before .before .before .before .before .before .before .before .before .before .before .before .before .before .before .before .before .loop .inv .0,
+      c .before .before .before .before .before .before .before .before .before .name-line .kept .1 .0 ∙ c .before .before .before .before .before .before .before .before .before .before .before .before .before .before .before .before .before .before .loop .inv .1,
+      c .before .before .before .before .before .before .before .before .before .name-line .kept .1 .1 .0 ∙ c .before .before .before .before .before .before .before .before .before .before .before .before .before .before .before .before .before .before .loop .inv .2,
+      omega (arith, line-within (c .before .before .before .before .before .before .before .before .before .before .before .before .before .before .before .before .before .before .before .before .before .before .before .args .text .now) (c .before .before .before .before .before .before .before .before .before .before .before .before .before .before .before .before .before .before .loop .at) (c .before .before .before .before .before .before .before .before .before .before .before .before .before .before .before .before .line-at .result .now) (c .before .before .before .before .before .before .before .before .before .before .before .before .before .before .before .before .before .loop-test .taken) (c .before .before .before .before .before .before .before .before .before .before .before .before .before .before .before .before .line-at .ensures)),
+      g .1,
+    )
 
 same-length-7 : tie.Need-same-length-7 Inv-loop μ-loop
-same-length-7 c = ?
+same-length-7 c = c .before .loop .inv .0
 
 same-length-8 : tie.Need-same-length-8 Inv-loop μ-loop
-same-length-8 c = ?
+same-length-8 c = c .before .loop .inv .1
 
 same-length-9 : tie.Need-same-length-9 Inv-loop μ-loop
-same-length-9 c = ?
+same-length-9 c = c .before .loop .inv .2
 
 returns-3 : tie.Need-returns-3 Inv-loop μ-loop
-returns-3 c = ?
+returns-3 c = named-over (c .before .loop .inv .4) _ (c .before .loop .inv .0) (c .loop-test .left)
 
 pub name-rows-spec : {M : Type 1} → statement M
 name-rows-spec =
