@@ -7,5 +7,6 @@ pub mod Taken
 pub mod Reading
 pub mod Naming
 pub mod Settling
+pub mod FunctionUnique
 pub mod FaultLines
 pub mod RoundTrip

@@ -249,23 +249,23 @@ module _ (n : ℕ) (t : Kind) (rows : List Row) (v l h : List ℕ) (v₁ l₁ h�
 
 -- The entry, from the conditions in their order.
 module _ (text v l h : List ℕ) where
-  abbrev shortKept : Condition
+  abbrev pub shortKept : Condition
   shortKept = record { number = textOver; kept = leb (length text) 32768 }
 
-  abbrev sizesTest : Bool
+  abbrev pub sizesTest : Bool
   sizesTest = eqb (length l) (length v) && eqb (length h) (length v) && leb (length v) 4096
 
-  abbrev sizesKept : Condition
+  abbrev pub sizesKept : Condition
   sizesKept = record { number = tableOver; kept = sizesTest }
 
-  abbrev goodKept : Condition
+  abbrev pub goodKept : Condition
   goodKept = record { number = textFault; kept = isGood (outcome 0 text) }
 
-  abbrev rooms : Outcome → List Condition
+  abbrev pub rooms : Outcome → List Condition
   rooms w =
       record { number = nodesLack; kept = leb (needOf w) (length v) } ∷ record { number = onAndOff; kept = not (contradictory w) } ∷ []
 
-  first-broken : functionRefusal text v l h ≡ firstBroken (shortKept ∷ sizesKept ∷ goodKept ∷ rooms (outcome 0 text))
+  pub first-broken : functionRefusal text v l h ≡ firstBroken (shortKept ∷ sizesKept ∷ goodKept ∷ rooms (outcome 0 text))
   unfolding functionRefusal functionConditions
   first-broken = refl
 
