@@ -1,6 +1,6 @@
 -- Naming the rows of a text through its lines: what one line names, what is left to name, and what does not fit.
 use mathlib.Core.Path.{_≡_, refl, sym, ap, _∙_, subst, subst⁻¹}
-use mathlib.Core.Bool.{true, false, cond}
+use mathlib.Core.Bool.{true, false}
 use mathlib.Core.List.{List, [], _∷_, _++_, append-nil, append-assoc}
 use Prim.Native.Nat.{ℕ, _+_, _<_, _≤_}
 use native.Mathlib.Omega.{arith}
@@ -23,6 +23,7 @@ use Rattle.rows.specs.Naming.{otherPart, Named, Unnamed, NamedOf}
 use Rattle.rows.specs.declared.naming.Sets.{Sets}
 use Rattle.rows.specs.declared.naming.Sets.the-variants.{Done, Full}
 use Rattle.text.specs.Function.{rowIn, rowsIn}
+use Rattle.text.proofs.Reading.{rows-to-end, rows-and-more}
 
 -- What some rows name, and what those after them do; so what does not fit for the first does not fit for all.
 named-append : (n : ℕ) (t : Kind) (seen xs ys : List Row) → namedAfter n t seen (xs ++ ys) ≡ namedAfter n t seen xs ++ namedAfter n t (seen ++ xs) ys
@@ -80,20 +81,18 @@ module _ (n : ℕ) (text : List ℕ) (at : ℕ) where
   rows-over h = ap (λ t. rowsIn n (lines t)) (drop-of-length-le text h)
 
   module _ (h : at < length text) (line : List ℕ) (l : line ≡ until isNewline (drop at text)) (told : Line) (m : told ≡ meaning line) where
-    unrolled : rowsIn n (lines (drop at text))
-        ≡ cond (isEnd told) [] (rowIn n told ++ rowsIn n (lines (drop (at + length line + 1) text)))
-    unfolding rowsIn
+    abbrev rest : List (List ℕ)
+    rest = lines (drop (at + length line + 1) text)
+
+    unrolled : rowsIn n (lines (drop at text)) ≡ rowsIn n (line ∷ rest)
     unrolled =
-        ap (rowsIn n) (lines-unroll text at h) ∙
-        ap (λ u. rowsIn n (u ∷ lines (drop (at + length u + 1) text))) (sym l) ∙
-        ap (λ t. cond (isEnd t) [] (rowIn n t ++ rowsIn n (lines (drop (at + length line + 1) text)))) (sym m)
+        ap (rowsIn n) (lines-unroll text at h) ∙ ap (λ u. rowsIn n (u ∷ lines (drop (at + length u + 1) text))) (sym l)
 
     rows-end : isEnd told ≡ true → rowsIn n (lines (drop at text)) ≡ []
-    rows-end e = unrolled ∙ rw e
+    rows-end e = unrolled ∙ rows-to-end n line rest (ap isEnd (sym m) ∙ e)
 
-    rows-on : isEnd told ≡ false
-        → rowsIn n (lines (drop at text)) ≡ rowIn n told ++ rowsIn n (lines (drop (at + length line + 1) text))
-    rows-on e = unrolled ∙ rw e
+    rows-on : isEnd told ≡ false → rowsIn n (lines (drop at text)) ≡ rowIn n told ++ rowsIn n rest
+    rows-on e = unrolled ∙ rows-and-more n line rest (ap isEnd (sym m) ∙ e) ∙ ap (λ t. rowIn n t ++ rowsIn n rest) (sym m)
 
 -- A line lies within its text.
 pub line-within : (text : List ℕ) (at : ℕ) (line : List ℕ) → at < length text → line ≡ until isNewline (drop at text) → at + length line ≤ length text

@@ -25,6 +25,16 @@ use Rattle.text.specs.declared.judge.Step.the-variants.{On, Fault, Ended
 use Rattle.text.specs.declared.judge.Judged.the-variants.{Good}
 use Rattle.text.proofs.Taken.{ended-is-end, on-is-not-end}
 
+-- The second pass ends at `.e`; any other line has its row before those of the lines after it.
+module _ (n : ℕ) (l : List ℕ) (ls : List (List ℕ)) where
+  pub rows-to-end : isEnd (meaning l) ≡ true → rowsIn n (l ∷ ls) ≡ []
+  unfolding rowsIn
+  rows-to-end e = ap (λ b. cond b [] (rowIn n (meaning l) ++ rowsIn n ls)) e
+
+  pub rows-and-more : isEnd (meaning l) ≡ false → rowsIn n (l ∷ ls) ≡ rowIn n (meaning l) ++ rowsIn n ls
+  unfolding rowsIn
+  rows-and-more e = ap (λ b. cond b [] (rowIn n (meaning l) ++ rowsIn n ls)) e
+
 -- A row fits what was said so far: it has as many signs as columns, and it is counted.
 abbrev Fits : Line → State → Type 0
 Fits Empty s = Unit {0}
@@ -166,12 +176,12 @@ good-again asked s k (l ∷ ls) n t rs h e =
           some = a .some;
           few = a .few;
           kept = λ z. a .kept (g .kept z .1) ∙ sym (g .kept z .0);
-          rows = q .rows (a .kept) ∙ ap (λ r. rowIn n (meaning l) ++ r) (a .rows) ∙ rw (on-is-not-end asked s s′ (meaning l) d);
+          rows = q .rows (a .kept) ∙ ap (λ r. rowIn n (meaning l) ++ r) (a .rows) ∙ sym (rows-and-more n l ls (on-is-not-end asked s s′ (meaning l) d));
         }
     go Fault d e ih = no-fault e
     go Ended d e ih =
         let q = finished s k n t rs e in
-        record { some = q .some; few = omega (arith, q .columns); kept = λ z. q .columns; rows = q .none ∙ rw (ended-is-end asked s (meaning l) d) }
+        record { some = q .some; few = omega (arith, q .columns); kept = λ z. q .columns; rows = q .none ∙ sym (rows-to-end n l ls (ended-is-end asked s (meaning l) d)) }
 
 -- A good text of n columns and some type: 1 to 16 columns, and its rows are those of the second pass.
 pub record GoodText (text : List ℕ) (n : ℕ) (t : Rows.Kind) : Type 0 where
