@@ -5,7 +5,7 @@ use mathlib.Core.List.{List, [], _∷_, _++_, map}
 use Prim.Native.Nat.{ℕ, zero, suc, _+_, _<_, _≤_}
 use native.Mathlib.Nat.{zero-add}
 use native.Mathlib.Omega.{arith}
-use lib.Dec.{eqb, leb}
+use lib.Dec.{eqb, leb, eqb·suc-zero}
 use lib.ListN.{length, drop, set, length-map, drop-of-length-le}
 use lib.Seq.{sets}
 use borrow.Author.Tests.{le-leb, lt-leb, eq-eqb, ne-eqb, leb-true}
@@ -25,7 +25,7 @@ use Rattle.line.specs.declared.meaning.Line.the-variants.{Empty, Columns, Outpu
 use Rattle.text.specs.Outcome.{Outcome, good, fault, legal, step, complete, finish, putRow, addRow, follow, run, start, outcome}
 use Rattle.text.specs.Judged.{kindFor, judgedPlus, judged}
 use Rattle.text.specs.Room.{cleared, padded, Put}
-use Rattle.text.specs.Candidate.{isGood, faultLine, cubesOf, readConditions, readReturns, readBy, readAnswer, listBy, listRead, rowNumber, rowNumbers}
+use Rattle.text.specs.Candidate.{isGood, faultLine, cubesOf, readConditions, readReturns, readBy, readAnswer, readNumbers, numbersFor, listBy, listRead, Read, rowNumber, rowNumbers}
 use Rattle.text.specs.declared.judge.State.{State}
 use Rattle.text.specs.declared.judge.Step.{Step}
 use Rattle.text.specs.declared.judge.Step.the-variants.{On, Fault, Ended}
@@ -272,3 +272,24 @@ module _ (n : ℕ) (text : List ℕ) (room : List ℕ) where
 
     pub kept-by-others : (a ≡ 11 → ⊥) → (a ≡ 8 → ⊥) → room ≡ listRead n text room
     kept-by-others g h = sym (refused-by ∙ rw (ne-eqb a 11 g) (rw (ne-eqb a 8 h)))
+
+-- The answer has the numbers of its refusal.
+answer-numbers : (w : Outcome) (r : ℕ) → readNumbers (readBy r w) ≡ numbersFor r w
+unfolding readNumbers numbersFor readBy readReturns
+answer-numbers w zero = refl
+answer-numbers w (suc r) =
+    λ i.
+    record {
+      refusal = suc r;
+      returned = readReturns w (suc r);
+      rows = cond (sym (eqb·suc-zero r) i) (length (cubesOf w)) 0;
+    }
+
+pub has-taken : (n : ℕ) (text : List ℕ) (room : List ℕ) (room′ : List ℕ) (w : Candidate) → w ≡ readAnswer n text (length room) → room′ ≡ listRead n text room → Read n text room room′ w
+unfolding readAnswer
+has-taken n text room room′ w e f =
+    record {
+      answer = e;
+      numbers = ap readNumbers e ∙ answer-numbers (outcome n text) (firstBroken (readConditions n text (length room)));
+      left = f;
+    }
