@@ -15,7 +15,7 @@ use Rattle.graph.specs.Run.{Names}
 use Rattle.graph.proofs.Tests.{constant-refers}
 use Rattle.graph.proofs.Numbers.{fn-zero}
 use Rattle.line.specs.Bytes.{isNewline, until, split, lines}
-use Rattle.line.specs.Meaning.{meaning, isEnd, rowOf}
+use Rattle.line.specs.Meaning.{meaning, isEnd}
 use Rattle.line.proofs.Fields.{lines-unroll}
 use Rattle.line.proofs.Runs.{until-within}
 use Rattle.line.specs.declared.meaning.Line.{Line}

@@ -1,12 +1,11 @@
 -- The rows of a good text, read again for its columns: they are the rows of its outcome. Once a row is there the columns stay,
 -- and each row has as many signs as the columns said so far; so every row has as many as the text has columns.
-use mathlib.Core.Path.{_≡_, refl, sym, ap, _∙_, subst, subst⁻¹}
+use mathlib.Core.Path.{_≡_, refl, sym, ap, _∙_, subst}
 use mathlib.Core.Bool.{Bool, true, false, cond, not, _&&_, _||_}
 use mathlib.Core.List.{List, [], _∷_, _++_}
 use Prim.Native.Nat.{ℕ, _+_, _<_, _≤_}
 use native.Mathlib.Omega.{arith}
 use lib.Dec.{eqb}
-use lib.ListN.{length}
 use borrow.Author.Tests.{eqb-true, eqb-false}
 use Rattle.rule.specs.Rows as Rows
 use Rattle.rule.proofs.Bools.{and-left, and-right, not-is-true}
@@ -16,7 +15,7 @@ use Rattle.line.proofs.Lines.{columns-fine}
 use Rattle.line.specs.declared.meaning.Kind.{Kind}
 use Rattle.line.specs.declared.meaning.Line.{Line}
 use Rattle.line.specs.declared.meaning.Line.the-variants.{Empty, Columns, Output, Typed, Count, Row, End, Bad}
-use Rattle.text.specs.Outcome.{Outcome, good, fault, start, withColumns, withOutput, withKind, withCount, withRow, allowsColumns, allowsKind, allowsOut, first, legal, step, complete, finish, putRow, addRow, follow, run, outcome}
+use Rattle.text.specs.Outcome.{Outcome, good, fault, start, withColumns, withOutput, withKind, withCount, withRow, allowsColumns, allowsOut, first, legal, step, complete, finish, putRow, addRow, follow, run, outcome}
 use Rattle.text.specs.Judged.{kindFor, judgedPlus, judged}
 use Rattle.text.specs.Function.{rowIn, rowsIn}
 use Rattle.text.specs.declared.judge.State.{State}

@@ -1,25 +1,25 @@
 -- Building the function of a text's rows, clearing what is past its records, and the answer: one law for each way out.
 use mathlib.Core.Path.{_≡_, refl, sym, ap, _∙_, subst, subst⁻¹, subst₃}
-use mathlib.Core.Bool.{Bool, true, false, cond, not, _&&_, _||_}
-use mathlib.Core.List.{List, [], _∷_, _++_}
-use Prim.Native.Nat.{ℕ, zero, suc, _+_, _<_, _≤_}
+use mathlib.Core.Bool.{Bool, true, false, cond, not, _&&_}
+use mathlib.Core.List.{List, [], _∷_}
+use Prim.Native.Nat.{ℕ, _+_, _<_, _≤_}
 use native.Mathlib.Nat.{not-suc-le-zero}
 use native.Mathlib.Omega.{arith}
 use lib.Dec.{eqb, leb}
-use lib.ListN.{length, replicate}
+use lib.ListN.{length}
 use borrow.Author.Tests.{eq-eqb, ne-eqb, le-leb, lt-leb}
 use Rattle.rule.specs.Func.{Fn, within}
 use Rattle.rule.specs.Nodes.{nodes, addAll}
 use Rattle.rule.specs.Refusal.{Condition, firstBroken, textOver, tableOver, textFault, nodesLack, onAndOff}
 use Rattle.rule.specs.Rows.{Kind, Row, lowerOf, upperOf, contradicts, namedAfter, readingNames, readingNeed}
-use Rattle.rule.proofs.Bools.{and-intro, not-is-true, not-is-false}
+use Rattle.rule.proofs.Bools.{not-is-true, not-is-false}
 use Rattle.rule.proofs.Sets.{addAll-append}
 use Rattle.rule.proofs.Growth.{more-no-shorter}
 use Rattle.rule.proofs.Rows.{within-exactly}
 use Rattle.graph.specs.Table.{tableOf, fnOf, goodTable, functions}
 use Rattle.graph.specs.Sound.{Sized, Sound, RootedTwice}
 use Rattle.graph.specs.Built.{Built, Lacking, MadeOf}
-use Rattle.graph.specs.Run.{Run, Names}
+use Rattle.graph.specs.Run.{Names}
 use Rattle.graph.specs.Entry.{cleared}
 use Rattle.graph.specs.declared.build.Made.{Made}
 use Rattle.graph.specs.declared.build.Made.the-variants as made
@@ -36,7 +36,7 @@ use Rattle.rows.specs.declared.naming.Sets.the-variants as sets
 use Rattle.text.specs.Outcome.{Outcome, good, fault, outcome}
 use Rattle.text.specs.Judged.{judged}
 use Rattle.text.specs.Candidate.{isGood, faultLine}
-use Rattle.text.specs.Function.{rowsIn, needOf, contradictory, functionConditions, functionRefusal, functionNumbers, functionReturns, tableLeft, NotRead, HasRead, ReadsFunction, roomBroken, FunctionBuilt, FunctionLacks, BuiltOf, Cleared, SettledOf}
+use Rattle.text.specs.Function.{rowsIn, needOf, contradictory, functionConditions, functionRefusal, functionNumbers, functionReturns, tableLeft, NotRead, HasRead, ReadsFunction, roomBroken, FunctionBuilt, FunctionLacks, BuiltOf, SettledOf}
 use Rattle.text.specs.declared.judge.Judged.the-variants.{Faulty}
 use Rattle.text.specs.declared.function.Function.{Function}
 use Rattle.text.specs.declared.function.Function.the-variants.{Done, Refused}

@@ -1,7 +1,7 @@
 -- Reading a candidate: the second pass takes the rows of a good text, one line at a time; and the answer, test by test.
 use mathlib.Core.Path.{_≡_, refl, sym, ap, ap₂, _∙_, subst}
-use mathlib.Core.Bool.{Bool, true, false, cond, _&&_, _||_, false≢true, true≢false}
-use mathlib.Core.List.{List, [], _∷_, _++_, map}
+use mathlib.Core.Bool.{Bool, true, false, cond, _&&_, _||_, false≢true}
+use mathlib.Core.List.{List, [], _∷_, _++_}
 use Prim.Native.Nat.{ℕ, zero, suc, _+_, _<_, _≤_}
 use native.Mathlib.Nat.{zero-add}
 use native.Mathlib.Omega.{arith}
@@ -10,10 +10,9 @@ use lib.ListN.{length, drop, set, length-map, drop-of-length-le}
 use lib.Seq.{sets}
 use borrow.Author.Tests.{le-leb, lt-leb, eq-eqb, ne-eqb, leb-true}
 use Rattle.rule.specs.Number.{cubeNumber, signs}
-use Rattle.rule.specs.Refusal.{Condition, firstBroken}
+use Rattle.rule.specs.Refusal.{firstBroken}
 use Rattle.rule.specs.Rows as Rows
 use Rattle.rule.proofs.Number.{cubeNumber-signs}
-use Rattle.rule.proofs.Bools.{clash}
 use Rattle.line.specs.Bytes.{isNewline, until, split, lines}
 use Rattle.line.specs.Meaning.{meaning, isEnd, kindOf, rowOf}
 use Rattle.line.proofs.Fields.{lines-unroll}
@@ -23,7 +22,7 @@ use Rattle.line.specs.declared.meaning.Out.{Out}
 use Rattle.line.specs.declared.meaning.Line.{Line}
 use Rattle.line.specs.declared.meaning.Line.the-variants.{Empty, Columns, Output, Typed, Count, Row, End, Bad}
 use Rattle.text.specs.Outcome.{Outcome, good, fault, legal, step, complete, finish, putRow, addRow, follow, run, start, outcome}
-use Rattle.text.specs.Judged.{kindFor, judgedPlus, judged}
+use Rattle.text.specs.Judged.{judgedPlus, judged}
 use Rattle.text.specs.Room.{cleared, padded, Put}
 use Rattle.text.specs.Candidate.{isGood, faultLine, cubesOf, readConditions, readReturns, readBy, readAnswer, readNumbers, numbersFor, listBy, listRead, Read, rowNumber, rowNumbers}
 use Rattle.text.specs.declared.judge.State.{State}

@@ -9,16 +9,15 @@ use native.Mathlib.Omega.{arith}
 use lib.Dec.{eqb, leb, eqb·suc-zero}
 use lib.ListN.{length, getD, drop, set, length-append, length-map, drop-of-length-le}
 use lib.Seq.{sets, drop-cons}
-use borrow.Author.Tests.{lt-ltb, le-ltb, le-leb, lt-leb, eq-eqb, ne-eqb, leb-true, eqb-true}
+use borrow.Author.Tests.{le-leb, lt-leb, eq-eqb, ne-eqb, leb-true}
 use Rattle.rule.specs.Point.{odd}
-use Rattle.rule.specs.Cube.{Sign, sign0, sign1, dash}
 use Rattle.rule.specs.Number.{signOf, signsFrom, signs, wellFormed}
-use Rattle.rule.specs.Refusal.{Condition, firstBroken}
+use Rattle.rule.specs.Refusal.{firstBroken}
 use Rattle.rule.proofs.Number.{length-signs}
 use Rattle.rule.proofs.Bools.{and-right}
 use Rattle.line.specs.Bytes.{bytes}
 use Rattle.line.specs.Decimal.{decimal, digit}
-use Rattle.line.proofs.Decimal.{decimal-one, decimal-more, length-decimal}
+use Rattle.line.proofs.Decimal.{decimal-one, decimal-more}
 use Rattle.text.specs.Room.{cleared, padded, Put}
 use Rattle.text.specs.Writing.{signByte, rowText, rowsText, joined, textParts, listText, malformedFrom, writeConditions, writeReturns, answerBy, writeAnswer, numbersOf, numbersFor, roomBy, roomWritten, Wrote, Writable}
 use Rattle.text.specs.declared.writing.Written.{Written}

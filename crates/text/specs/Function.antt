@@ -1,8 +1,8 @@
 -- The entry that reads a function text: what it refuses, what it answers, and what it leaves behind.
 use mathlib.Core.Path.{_≡_}
-use mathlib.Core.Bool.{Bool, true, false, cond, not, _&&_, _||_}
+use mathlib.Core.Bool.{Bool, false, cond, not, _&&_, _||_}
 use mathlib.Core.List.{List, [], _∷_, _++_}
-use Prim.Native.Nat.{ℕ, zero, suc, _<_}
+use Prim.Native.Nat.{ℕ, suc, _<_}
 use lib.Dec.{eqb, leb}
 use lib.ListN.{length}
 use Rattle.rule.specs.Nodes.{addAll}

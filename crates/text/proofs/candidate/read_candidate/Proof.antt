@@ -3,7 +3,6 @@
 use mathlib.Core.Path.{sym, ap, _∙_}
 use native.Mathlib.Omega.{arith}
 use lib.ListN.{length}
-use borrow.Author.Needs.{needs}
 use Rattle.text.specs.Outcome.{outcome}
 use Rattle.text.specs.Candidate.{cubesOf}
 use Rattle.text.proofs.Room.{put-kept}

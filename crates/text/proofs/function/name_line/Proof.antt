@@ -1,7 +1,5 @@
 -- `text::function::name_line` meets its contract, arm by arm.
 use mathlib.Core.Path.{ap}
-use mathlib.Core.List.{[], _∷_}
-use Rattle.line.specs.Meaning.{rowOf}
 use Rattle.text.specs.Function.{rowIn}
 use Rattle.text.proofs.Naming.{line-names, line-names-none}
 use borrow.Author.Needs.{needs}
