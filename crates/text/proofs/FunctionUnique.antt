@@ -21,7 +21,7 @@ use Rattle.text.specs.Candidate.{isGood}
 use Rattle.text.specs.Function.{functionRefusal, NotRead, HasRead, ReadsFunction}
 use Rattle.text.specs.declared.function.Function.{Function}
 use Rattle.text.specs.declared.function.Function.the-variants.{Done}
-use Rattle.text.proofs.Settling.{shortKept, sizesKept, goodKept, rooms, first-broken}
+use Rattle.text.proofs.FunctionEntry.{shortKept, sizesKept, goodKept, rooms, first-broken}
 
 -- Two answers with what they leave in the slices are equal.
 abbrev Same : Function → List ℕ → List ℕ → List ℕ → Function → List ℕ → List ℕ → List ℕ → Type 0

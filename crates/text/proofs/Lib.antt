@@ -7,6 +7,7 @@ pub mod Taken
 pub mod Reading
 pub mod Naming
 pub mod Settling
+pub mod FunctionEntry
 pub mod FunctionUnique
 pub mod FaultLines
 pub mod RoundTrip

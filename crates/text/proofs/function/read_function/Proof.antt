@@ -1,8 +1,8 @@
 -- `text::function::read_function` meets its contract: the tests come in the order of the refusals, and each way out is a law of
--- `Settling`.
+-- `FunctionEntry`.
 use mathlib.Core.Path.{sym, _∙_}
 use Rattle.text.proofs.Reading.{judged-good}
-use Rattle.text.proofs.Settling.{text-over, low-differs, high-differs, table-over, fault-told, table-empty, settled-reads}
+use Rattle.text.proofs.FunctionEntry.{text-over, low-differs, high-differs, table-over, fault-told, table-empty, settled-reads}
 use borrow.Author.Needs.{needs}
 use Rattle.text.proofs.function.read_function.Statement.{statement}
 use Rattle.text.proofs.function.read_function.Tie as tie
