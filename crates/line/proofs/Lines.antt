@@ -1,4 +1,5 @@
--- The meaning of a line by its fields, and what every row of a text keeps: at most 16 signs, and a well-formed cube.
+-- The meaning of a line by its fields, and what every row of a text keeps: at most 16 signs, and a well-formed cube; and what
+-- `.i` does: at most 16 columns.
 use mathlib.Core.Path.{_≡_, refl, sym, ap, ap₂, _∙_, subst}
 use mathlib.Core.Bool.{Bool, true, false, cond, _&&_}
 use mathlib.Core.List.{List, [], _∷_, map}
@@ -170,7 +171,7 @@ pub cube-short : (a : List ℕ) → isCube a ≡ true → length a ≤ 16
 unfolding isCube
 cube-short a e = leb-true (length a) 16 (and-left (leb (length a) 16) (all isSign a) e)
 
--- What every row of a text keeps.
+-- What every row and every `.i` of a text keeps.
 pub record FineRow (n x : ℕ) : Type 0 where
   pub few : n ≤ 16
   pub formed : wellFormed n x ≡ true

@@ -5,6 +5,11 @@ pub mod Room
 pub mod Written
 pub mod Judging
 pub mod Taken
+pub mod Reading
+pub mod Naming
+pub mod Settling
+pub mod FunctionEntry
+pub mod FunctionUnique
 pub mod FaultLines
 pub mod Legal
 pub mod RoundTrip

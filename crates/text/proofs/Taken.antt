@@ -1,19 +1,18 @@
 -- Reading a candidate: the second pass takes the rows of a good text, one line at a time; and the answer, test by test.
 use mathlib.Core.Path.{_≡_, refl, sym, ap, ap₂, _∙_, subst}
-use mathlib.Core.Bool.{Bool, true, false, cond, _&&_, _||_, false≢true, true≢false}
-use mathlib.Core.List.{List, [], _∷_, _++_, map}
+use mathlib.Core.Bool.{Bool, true, false, cond, _&&_, _||_, false≢true}
+use mathlib.Core.List.{List, [], _∷_, _++_}
 use Prim.Native.Nat.{ℕ, zero, suc, _+_, _<_, _≤_}
 use native.Mathlib.Nat.{zero-add}
 use native.Mathlib.Omega.{arith}
-use lib.Dec.{eqb, leb}
+use lib.Dec.{eqb, leb, eqb·suc-zero}
 use lib.ListN.{length, drop, set, length-map, drop-of-length-le}
 use lib.Seq.{sets}
 use borrow.Author.Tests.{le-leb, lt-leb, eq-eqb, ne-eqb, leb-true}
 use Rattle.rule.specs.Number.{cubeNumber, signs}
-use Rattle.rule.specs.Refusal.{Condition, firstBroken}
+use Rattle.rule.specs.Refusal.{firstBroken}
 use Rattle.rule.specs.Rows as Rows
 use Rattle.rule.proofs.Number.{cubeNumber-signs}
-use Rattle.rule.proofs.Bools.{clash}
 use Rattle.line.specs.Bytes.{split, lines}
 use Rattle.line.specs.Meaning.{meaning, isEnd, kindOf, rowOf}
 use Rattle.line.proofs.Lines.{row-fine}
@@ -22,9 +21,9 @@ use Rattle.line.specs.declared.meaning.Out.{Out}
 use Rattle.line.specs.declared.meaning.Line.{Line}
 use Rattle.line.specs.declared.meaning.Line.the-variants.{Empty, Columns, Output, Typed, Count, Row, End, Bad}
 use Rattle.text.specs.Outcome.{Outcome, good, fault, legal, step, complete, finish, putRow, addRow, follow, run, start, outcome}
-use Rattle.text.specs.Judged.{kindFor, judgedPlus, judged}
+use Rattle.text.specs.Judged.{judgedPlus, judged}
 use Rattle.text.specs.Room.{cleared, padded, Put}
-use Rattle.text.specs.Candidate.{isGood, faultLine, cubesOf, readConditions, readReturns, readBy, readAnswer, listBy, listRead, rowNumber, rowNumbers}
+use Rattle.text.specs.Candidate.{isGood, faultLine, cubesOf, readConditions, readReturns, readBy, readAnswer, readNumbers, numbersFor, listBy, listRead, Read, rowNumber, rowNumbers}
 use Rattle.text.specs.declared.judge.State.{State}
 use Rattle.text.specs.declared.judge.Step.{Step}
 use Rattle.text.specs.declared.judge.Step.the-variants.{On, Fault, Ended}
@@ -73,7 +72,7 @@ unfolding legal
 legal-goes true t e = let x : _≡_ {A = ℕ} 0 1 = cc in absurd-step e x
 legal-goes false t e = let x : _≡_ {A = ℕ} 0 1 = cc in absurd-step e x
 
-ended-is-end : (asked : ℕ) (s : State) (l : Line) → step asked s l ≡ Ended → isEnd l ≡ true
+pub ended-is-end : (asked : ℕ) (s : State) (l : Line) → step asked s l ≡ Ended → isEnd l ≡ true
 unfolding step isEnd
 ended-is-end asked s Empty e = let x : _≡_ {A = ℕ} 0 1 = cc in absurd-step e x
 ended-is-end asked s (Columns n) e = legal-goes _ _ e
@@ -84,7 +83,7 @@ ended-is-end asked s (Row n x o) e = legal-goes _ _ e
 ended-is-end asked s End e = refl
 ended-is-end asked s Bad e = let x : _≡_ {A = ℕ} 0 1 = cc in absurd-step e x
 
-on-is-not-end : (asked : ℕ) (s s′ : State) (l : Line) → step asked s l ≡ On s′ → isEnd l ≡ false
+pub on-is-not-end : (asked : ℕ) (s s′ : State) (l : Line) → step asked s l ≡ On s′ → isEnd l ≡ false
 unfolding step isEnd
 on-is-not-end asked s s′ Empty e = refl
 on-is-not-end asked s s′ (Columns n) e = refl
@@ -145,7 +144,7 @@ good-rows asked s k (l ∷ ls) g =
     go Ended e f h = finished s k ∙ rw (ended-is-end asked s (meaning l) e)
 
 -- What a text's shape says of its outcome.
-faulty-outcome : (w : Outcome) (k : ℕ) → Faulty k ≡ judged w → w ≡ fault k
+pub faulty-outcome : (w : Outcome) (k : ℕ) → Faulty k ≡ judged w → w ≡ fault k
 unfolding judged judgedPlus
 faulty-outcome (good n t rs) k e = let x : _≡_ {A = ℕ} 0 1 = cc in let y : ⊥ = omega arith in absurd y
 faulty-outcome (fault j) k e = let f : k ≡ j = cc in ap fault (sym f)
@@ -271,3 +270,24 @@ module _ (n : ℕ) (text : List ℕ) (room : List ℕ) where
 
     pub kept-by-others : (a ≡ 11 → ⊥) → (a ≡ 8 → ⊥) → room ≡ listRead n text room
     kept-by-others g h = sym (refused-by ∙ rw (ne-eqb a 11 g) (rw (ne-eqb a 8 h)))
+
+-- The answer has the numbers of its refusal.
+answer-numbers : (w : Outcome) (r : ℕ) → readNumbers (readBy r w) ≡ numbersFor r w
+unfolding readNumbers numbersFor readBy readReturns
+answer-numbers w zero = refl
+answer-numbers w (suc r) =
+    λ i.
+    record {
+      refusal = suc r;
+      returned = readReturns w (suc r);
+      rows = cond (sym (eqb·suc-zero r) i) (length (cubesOf w)) 0;
+    }
+
+pub has-taken : (n : ℕ) (text : List ℕ) (room : List ℕ) (room′ : List ℕ) (w : Candidate) → w ≡ readAnswer n text (length room) → room′ ≡ listRead n text room → Read n text room room′ w
+unfolding readAnswer
+has-taken n text room room′ w e f =
+    record {
+      answer = e;
+      numbers = ap readNumbers e ∙ answer-numbers (outcome n text) (firstBroken (readConditions n text (length room)));
+      left = f;
+    }

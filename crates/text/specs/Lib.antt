@@ -7,3 +7,4 @@ pub mod Example
 pub mod Room
 pub mod Writing
 pub mod Candidate
+pub mod Function

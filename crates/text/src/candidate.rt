@@ -31,7 +31,7 @@ fn clear_list(room: &mut [u32], from: usize)
 }
 
 // Whether a line is `.e`.
-fn ends(line: Line) -> bool
+pub fn ends(line: Line) -> bool
     ensures { λ r. ⌜ r ≡ isEnd line ⌝ }
 {
     match line {
