@@ -16,3 +16,4 @@ pub mod Clearing
 pub mod Entries
 pub mod Values
 pub mod Runs
+pub mod Chains
