@@ -15,4 +15,5 @@ pub mod Refusals
 pub mod Clearing
 pub mod Entries
 pub mod Values
+pub mod Roots
 pub mod Runs
