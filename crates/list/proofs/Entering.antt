@@ -48,6 +48,10 @@ pub cleared-whole : (s : List ℕ) → cleared 0 s ≡ replicate (length s) 0
 unfolding cleared
 cleared-whole s = let e : length s - 0 ≡ length s = omega arith in ap (λ j. replicate j 0) e
 
+-- Of two the first, where the test says so.
+first-chosen : (t : Bool) (x : List ℕ) (y : List ℕ) → t ≡ true → x ≡ cond t x y
+first-chosen t x y e = ap (λ b. cond b x y) (sym e)
+
 -- Cubes with nothing chosen before them have their own numbers.
 own-numbers : (cs : List Cube) → numbersUnder 0 1 cs ≡ map cubeNumber cs
 unfolding numbersUnder
@@ -126,7 +130,7 @@ module _ (n : ℕ) (c : ℕ) (v : List ℕ) (l : List ℕ) (h : List ℕ) (a : �
     unfolding roomLeft
     input-refused =
         generates-at r refusal-is v l h room (Refused r 0) (returns-none r z (λ q. omega (arith, below-7))) (unchanged v) (unchanged l) (unchanged h)
-        (ap (λ t. cond t room (cond (eqb r 0) (theList n c v l h a b room ++ replicate (length room - length (theList n c v l h a b room)) 0) (replicate (length room) 0))) (sym nothing-changed))
+        (first-chosen _ room _ nothing-changed)
 
   -- The input is good.
   module _ (r : ℕ) (e : r ≡ firstBroken (inputConditions n c v l h a b (length room))) (z : r ≡ 0) where
