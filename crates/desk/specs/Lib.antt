@@ -1,0 +1,3 @@
+-- What the two programs answer, for every input.
+pub mod Said
+pub mod Answer

@@ -1,0 +1,1 @@
+// The whole answer of each program as a function of its whole input.
