@@ -1,1 +1,3 @@
 -- The laws of the programs' answers.
+pub mod Examples
+pub mod Saying

@@ -1,3 +1,5 @@
 -- What the two programs answer, for every input.
 pub mod Said
 pub mod Answer
+pub mod Judged
+pub mod Example

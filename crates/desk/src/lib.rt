@@ -1,1 +1,2 @@
 // The whole answer of each program as a function of its whole input.
+pub mod said;
