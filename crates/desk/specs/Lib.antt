@@ -2,4 +2,5 @@
 pub mod Said
 pub mod Answer
 pub mod Judged
+pub mod Contract
 pub mod Example
