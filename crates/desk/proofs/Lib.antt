@@ -6,3 +6,4 @@ pub mod Reading
 pub mod Prepared
 pub mod Listed
 pub mod Checked
+pub mod Bounds

@@ -90,6 +90,13 @@ refusal-by : (text : List ℕ) → inputRefusal text ≡ refusalBy text (length 
 unfolding functionRefusal functionConditions inputRefusal
 refusal-by text = refl
 
+-- Where nothing is refused, the text has no fault.
+kept-input : (input : List ℕ) → inputRefusal input ≡ 0 → AllKept input (length column) (length column) (length column)
+kept-input input z = all-kept input (length column) (length column) (length column) (sym (refusal-by input) ∙ z)
+
+pub kept-good : (input : List ℕ) → inputRefusal input ≡ 0 → isGood (outcome 0 input) ≡ true
+kept-good input z = kept-input input z .isgood
+
 -- A function text that was read: its rows, what stands in the table, and L within U.
 pub record ReadRows (input : List ℕ) (v : List ℕ) (l : List ℕ) (h : List ℕ) (n : ℕ) (c : ℕ) (a : ℕ) (b : ℕ) : Type 0 where
   pub kind : Kind
@@ -110,9 +117,6 @@ module _ {input v l h v′ l′ h′ : List ℕ} {a : Function} (p : ReadsFuncti
   same : functionRefusal input v l h ≡ inputRefusal input
   same = same-refusal input v l h ev el eh
 
-  kept-input : inputRefusal input ≡ 0 → AllKept input (length column) (length column) (length column)
-  kept-input z = all-kept input (length column) (length column) (length column) (sym (refusal-by input) ∙ z)
-
   -- At a refusal.
   module _ {r x : ℕ} (e : a ≡ Refused r x) where
     number-is : (q : ℕ) → inputRefusal input ≡ suc q → (r ≡ suc q) × (x ≡ functionReturns input (suc q))
@@ -129,7 +133,7 @@ module _ {input v l h v′ l′ h′ : List ℕ} {a : Function} (p : ReadsFuncti
             let f : Refused r x ≡ Done n (k .count) (k .lower) (k .upper) = sym e ∙ k .answer in
             let g : _≡_ {A = ℕ} 0 1 = cc in
             omega arith
-        go (fault k) o = clash (kept-input z .isgood) (ap isGood o)
+        go (fault k) o = clash (kept-good input z) (ap isGood o)
 
     pub text-refused : (next : (n : ℕ) → Kind → List Row → List ℕ)
         → refusedText r x ≡ answerBy input (inputRefusal input) (outcome 0 input) next
@@ -170,7 +174,7 @@ module _ {input v l h v′ l′ h′ : List ℕ} {a : Function} (p : ReadsFuncti
         none = is-kept (inputRefusal input) refl
 
         go : (w : Outcome) → outcome 0 input ≡ w → ReadRows input v′ l′ h′ n c x y
-        go (fault k) o = clash (kept-input none .isgood) (ap isGood o)
+        go (fault k) o = clash (kept-good input none) (ap isGood o)
         go (good m t rows) o =
             let k = p .done (same ∙ none) m t rows o in
             let f : Done n c x y ≡ Done m (k .count) (k .lower) (k .upper) = sym e ∙ k .answer in
@@ -186,12 +190,12 @@ module _ {input v l h v′ l′ h′ : List ℕ} {a : Function} (p : ReadsFuncti
               rows = rows;
               kept = none;
               told = told;
-              short = kept-input none .short;
+              short = kept-input input none .short;
               some = good-fine 0 input n t rows told .some;
               level = j .length-kept ∙ ev;
               sound = subst (λ i. Sound n i v′ l′ h′) ec (j .sound);
               on = subst (λ i. Names v′ l′ h′ c 0 n (lowerOf n t rows) i) ex (subst (λ i. Names v′ l′ h′ i 0 n (lowerOf n t rows) (j .lower)) ec (j .on));
               on-or-dc = subst (λ i. Names v′ l′ h′ c 0 n (upperOf n t rows) i) ey (subst (λ i. Names v′ l′ h′ i 0 n (upperOf n t rows) (j .upper)) ec (j .on-or-dc));
               adds = subst (λ i. functions n (tableOf v′ l′ h′) i ≡ addAll [] (readingNames n t rows)) ec (j .adds);
-              inside = good-rows-within n t rows (ap contradictory (sym told) ∙ kept-input none .agrees);
+              inside = good-rows-within n t rows (ap contradictory (sym told) ∙ kept-input input none .agrees);
             }

@@ -51,12 +51,7 @@ put-last {room} {room′} {i} {r} {n} h b p =
     subst (λ w. Put room i w (set room′ r (48 + n % 10)) (r + 1)) (sym (numeral-more n h b))
     (put-then p (record { stored = refl; next = refl }))
 
--- A point has a digit for each column: one more is stored, and none is left.
-pub length-point : (n p : ℕ) → length (pointText n p) ≡ n
-unfolding pointText digits
-length-point zero p = refl
-length-point (suc n) p = ap suc (length-point n (p / 2))
-
+-- A point's digits: one column more is stored, and none is left; there is one for each column.
 column-digit : (p : ℕ) → digit (bit (odd p)) ≡ 48 + p % 2
 unfolding digit
 column-digit p = omega (arith, put-odd p)
@@ -74,6 +69,11 @@ pub no-column : (room : List ℕ) (i left p : ℕ) → left ≤ 0 → sets room 
 unfolding pointText digits
 no-column room i zero p h = refl
 no-column room i (suc m) p h = let x : ⊥ = omega arith in absurd x
+
+pub length-point : (n p : ℕ) → length (pointText n p) ≡ n
+unfolding pointText digits
+length-point zero p = refl
+length-point (suc n) p = ap suc (length-point n (p / 2))
 
 -- The end of a line.
 pub line-ended : {old w room room′ room″ : List ℕ} {i r : ℕ} → Put old 0 w room i → Put room i (bytes "\n") room′ r
