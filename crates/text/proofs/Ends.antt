@@ -1,48 +1,60 @@
--- Where a function text ends: its lines one after the other, up to the first `.e` line, and what follows it.
-use mathlib.Core.Path.{_≡_, sym, ap, _∙_}
-use mathlib.Core.Bool.{true, false, cond}
+-- What follows the first `.e` line of what is left of a text, line by line.
+use mathlib.Core.Path.{_≡_, refl, sym, ap, _∙_}
+use mathlib.Core.Bool.{Bool, true, false, cond}
 use mathlib.Core.List.{List, [], _∷_}
-use Prim.Native.Nat.{ℕ, _+_, _-_, _<_, _≤_}
+use Prim.Native.Nat.{ℕ, _+_, _<_, _≤_}
 use native.Mathlib.Omega.{arith}
-use lib.ListN.{length, take, drop, length-drop, drop-of-length-le}
-use Rattle.line.specs.Bytes.{isNewline, until, split, lines}
-use Rattle.line.specs.Meaning.{meaning, isEnd, bytesToEnd, afterEnd}
-use Rattle.line.specs.declared.meaning.Line.{Line}
+use lib.Dec.{ltb}
+use lib.ListN.{length, drop, drop-of-length-le}
+use lib.Seq.{drop-drop}
+use borrow.Author.Tests.{ltb-false}
+use Rattle.line.specs.Bytes.{split, lines}
+use Rattle.line.specs.Meaning.{isEnd, bytesToEnd, afterEnd}
 use Rattle.line.proofs.Fields.{lines-unroll}
-use Rattle.line.proofs.Runs.{take-rest, until-within}
+use Rattle.text.specs.Reader.{lineAt, placeAfter, takenAt}
+use Rattle.text.specs.declared.reader.Taken.{Taken}
 
--- The bytes of what is left of a text up to its first `.e` line, line by line.
 module _ (text : List ℕ) (at : ℕ) where
-  pub no-line : length text ≤ at → bytesToEnd (lines (drop at text)) ≡ 0
-  unfolding lines split bytesToEnd
-  no-line h = ap (λ t. bytesToEnd (lines t)) (drop-of-length-le text h)
+  -- Past the end nothing is left.
+  pub nothing-left : length text ≤ at → afterEnd (drop at text) ≡ drop at text
+  unfolding afterEnd bytesToEnd lines split
+  nothing-left h = let e : drop at text ≡ [] = drop-of-length-le text h in ap afterEnd e ∙ sym e
 
-  module _ (h : at < length text) (line : List ℕ) (l : line ≡ until isNewline (drop at text))
-      (told : Line) (m : told ≡ meaning line) where
-    pub line-inside : at + length line ≤ length text
-    line-inside = omega (arith, ap length l, until-within isNewline (drop at text), length-drop at text)
+  module _ (h : at < length text) (w : Taken) (t : w ≡ takenAt text at) where
+    abbrev line : List ℕ
+    line = lineAt text at
 
-    unrolled : bytesToEnd (lines (drop at text))
-        ≡ cond (isEnd told) (length line + 1) (length line + 1 + bytesToEnd (lines (drop (at + length line + 1) text)))
-    unfolding bytesToEnd
-    unrolled =
-        ap bytesToEnd (lines-unroll text at h) ∙
-        ap (λ u. bytesToEnd (u ∷ lines (drop (at + length u + 1) text))) (sym l) ∙
-        ap (λ t. cond (isEnd t) (length line + 1) (length line + 1 + bytesToEnd (lines (drop (at + length line + 1) text)))) (sym m)
+    -- The line is followed by what is left at the next place.
+    next-left : drop (at + length line + 1) text ≡ drop (w .next) text
+    unfolding takenAt placeAfter
+    next-left = go (ltb (at + length line) (length text)) refl ∙ ap (λ k. drop k text) (sym (ap (λ u. u .next) t))
+      where
+        go : (b : Bool) → ltb (at + length line) (length text) ≡ b
+            → drop (at + length line + 1) text ≡ drop (cond b (at + length line + 1) (length text)) text
+        go true e = refl
+        go false e =
+            let past : length text ≤ at + length line + 1 = omega (arith, ltb-false (at + length line) (length text) e) in
+            let end : length text ≤ length text = omega arith in
+            drop-of-length-le text past ∙ sym (drop-of-length-le text end)
 
-    pub end-here : isEnd told ≡ true → bytesToEnd (lines (drop at text)) ≡ length line + 1
-    end-here e = unrolled ∙ rw e
+    from-here : afterEnd (drop at text)
+        ≡ drop (cond (isEnd (w .line)) (length line + 1) (length line + 1 + bytesToEnd (lines (drop (at + length line + 1) text)))) (drop at text)
+    unfolding afterEnd bytesToEnd takenAt lineAt
+    from-here =
+        ap (λ ls. drop (bytesToEnd ls) (drop at text)) (lines-unroll text at h) ∙
+        ap (λ u. drop (cond (isEnd (u .line)) (length line + 1) (length line + 1 + bytesToEnd (lines (drop (at + length line + 1) text)))) (drop at text)) (sym t)
 
-    pub end-later : isEnd told ≡ false
-        → bytesToEnd (lines (drop at text)) ≡ length line + 1 + bytesToEnd (lines (drop (at + length line + 1) text))
-    end-later e = unrolled ∙ rw e
+    pub ends-here : isEnd (w .line) ≡ true → afterEnd (drop at text) ≡ drop (w .next) text
+    ends-here e =
+        let k : at + (length line + 1) ≡ at + length line + 1 = omega arith in
+        from-here ∙ rw e (drop-drop (length line + 1) at text ∙ ap (λ j. drop j text) k ∙ next-left)
 
--- What follows that line: nothing where the text is shorter.
-module _ (text : List ℕ) (n : ℕ) (e : n ≡ bytesToEnd (lines text)) where
-  pub nothing-follows : length text < n → [] ≡ afterEnd text
-  unfolding afterEnd
-  nothing-follows h = let short : length text ≤ bytesToEnd (lines text) = omega (arith, e) in sym (drop-of-length-le text short)
-
-  pub rest-follows : take (length text - n) (drop n text) ≡ afterEnd text
-  unfolding afterEnd
-  rest-follows = take-rest text n ∙ ap (λ k. drop k text) e
+    pub ends-later : isEnd (w .line) ≡ false → afterEnd (drop at text) ≡ afterEnd (drop (w .next) text)
+    unfolding afterEnd
+    ends-later e =
+        let more = bytesToEnd (lines (drop (at + length line + 1) text)) in
+        let k : at + (length line + 1 + more) ≡ at + length line + 1 + more = omega arith in
+        from-here ∙
+        rw e
+        (drop-drop (length line + 1 + more) at text ∙ ap (λ j. drop j text) k ∙ sym (drop-drop more (at + length line + 1) text) ∙
+        ap afterEnd next-left)

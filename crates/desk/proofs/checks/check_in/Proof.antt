@@ -11,7 +11,7 @@ use Rattle.desk.proofs.checks.check_in.Statement.{statement}
 use Rattle.desk.proofs.checks.check_in.Tie as tie
 
 read-function-requires : tie.Need-read-function-requires
-read-function-requires c κs = ?
+read-function-requires c κs = search needs
 
 enum-known-read : tie.Need-enum-known-read
 enum-known-read c = search needs

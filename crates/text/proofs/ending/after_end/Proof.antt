@@ -1,17 +1,12 @@
--- `text::ending::after_end` meets its contract: what follows that many bytes, nothing where the last line lacks its byte 10.
-use Rattle.text.proofs.Ends.{nothing-follows, rest-follows}
+-- `text::ending::after_end` meets its contract.
+use mathlib.Core.Path.{_∙_}
+use Rattle.line.proofs.Runs.{take-rest}
 use borrow.Author.Needs.{needs}
 use Rattle.text.proofs.ending.after_end.Statement.{statement}
 use Rattle.text.proofs.ending.after_end.Tie as tie
 
-bytes-to-end-requires : tie.Need-bytes-to-end-requires
-bytes-to-end-requires c κs = search needs
-
-slice-aggregate-result : tie.Need-slice-aggregate-result
-slice-aggregate-result c = search needs
-
-returns : tie.Need-returns
-returns c = nothing-follows (c .before .before .before .before .args .text .now) (c .before .before .bytes-to-end .result) (c .before .before .bytes-to-end .ensures) (c .before .if1 .taken)
+place-after-end-requires : tie.Need-place-after-end-requires
+place-after-end-requires c κs = search needs
 
 sub-result : tie.Need-sub-result
 sub-result c = search needs
@@ -22,17 +17,10 @@ part-result-start c = search needs
 part-result-end : tie.Need-part-result-end
 part-result-end c = search needs
 
-returns-2 : tie.Need-returns-2
-returns-2 c = rest-follows (c .before .before .before .before .args .text .now) (c .before .before .bytes-to-end .result) (c .before .before .bytes-to-end .ensures)
+returns : tie.Need-returns
+returns c = take-rest (c .before .before .before .args .text .now) (c .before .place-after-end .result) ∙ c .before .place-after-end .ensures .1
 
 pub after-end-spec : {M : Type 1} → statement M
 after-end-spec =
     tie.close
-    (tie.spec
-    bytes-to-end-requires
-    slice-aggregate-result
-    returns
-    sub-result
-    part-result-start
-    part-result-end
-    returns-2)
+    (tie.spec place-after-end-requires sub-result part-result-start part-result-end returns)
