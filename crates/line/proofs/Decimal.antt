@@ -11,7 +11,7 @@ use borrow.Author.Tests.{lt-ltb, le-ltb}
 use Rattle.line.specs.Decimal.{digit, decimalOf, decimal}
 
 -- Room for more digits than a number has changes nothing.
-more-room : (k n : ℕ) → n < 10 ^ suc k → decimalOf k n ≡ decimalOf (suc k) n
+pub more-room : (k n : ℕ) → n < 10 ^ suc k → decimalOf k n ≡ decimalOf (suc k) n
 unfolding decimalOf
 more-room zero n h =
     let b : n < 10 = omega (arith, pow-succ' 10 zero) in
@@ -52,7 +52,7 @@ pub length-five : (n : ℕ) → 10000 ≤ n → n < 100000 → length (decimal n
 length-five n h b =
     omega (arith, length-more n (omega arith) (omega arith), length-four (n / 10) (omega arith) (omega arith))
 
-length-most : (k n : ℕ) → length (decimalOf k n) ≤ suc k
+pub length-most : (k n : ℕ) → length (decimalOf k n) ≤ suc k
 unfolding decimalOf
 length-most zero n = omega arith
 length-most (suc k) n = go (ltb n 10) (length-most k (n / 10))

@@ -10,6 +10,7 @@ pub mod Naming
 pub mod Settling
 pub mod FunctionEntry
 pub mod FunctionUnique
+pub mod Ends
 pub mod FaultLines
 pub mod Legal
 pub mod RoundTrip

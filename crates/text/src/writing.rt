@@ -50,7 +50,7 @@ fn put_signs(room: &mut [u8], at: usize, columns: u16, ones: u32, zeros: u32) ->
 }
 
 // Some bytes as they are.
-fn put_bytes(room: &mut [u8], at: usize, word: &[u8]) -> usize
+pub fn put_bytes(room: &mut [u8], at: usize, word: &[u8]) -> usize
     requires { ⌜ at + length (now word) ≤ length (now room) ⌝ }
     ensures { λ r. ⌜ Put (now (room .entry)) at (now (word .entry)) (now (room .exit)) r ⌝ }
 {
@@ -102,7 +102,7 @@ fn put_rows(room: &mut [u8], at: usize, columns: u16, list: &[u32]) -> usize
 }
 
 // The bytes from a place on become zero.
-fn clear_from(room: &mut [u8], from: usize)
+pub fn clear_from(room: &mut [u8], from: usize)
     requires { ⌜ from ≤ length (now room) ⌝ }
     ensures { λ r. ⌜ now (room .exit) ≡ cleared from (now (room .entry)) ⌝ }
 {

@@ -1,0 +1,72 @@
+-- A function that was read is fit for the generator and the checker: what they ask of the input is kept.
+use mathlib.Core.Path.{_≡_, refl, ap₂, _∙_}
+use mathlib.Core.Bool.{true, not, _&&_, _||_}
+use mathlib.Core.List.{List, [], _∷_, _++_}
+use mathlib.Core.Logic.{_⊎_, inl, inr}
+use Prim.Native.Nat.{ℕ, _+_, _-_, _≤_, _<_}
+use native.Mathlib.Omega.{arith}
+use lib.Dec.{leb, ltb}
+use lib.ListN.{length}
+use borrow.Author.Tests.{le-leb, lt-leb, lt-ltb, ltb-true}
+use Rattle.rule.specs.Func.{within}
+use Rattle.rule.specs.Refusal.{Condition, firstBroken, outOfRange, notWithin, listOver}
+use Rattle.rule.proofs.Bools.{and-left, or-true}
+use Rattle.graph.specs.Entry.{tableConditions, inRange}
+use Rattle.graph.specs.Table.{Table, tableOf, fnOf, refers}
+use Rattle.graph.proofs.Entries.{both-in}
+use Rattle.graph.proofs.Refusals.{kept-next, none-broken, kept-before, sound-unbroken}
+use Rattle.text.specs.Room.{padded}
+use Rattle.desk.specs.Answer.{answerRoom, Answers}
+use Rattle.desk.specs.Judged.{Says}
+use Rattle.desk.specs.Contract.{Ready}
+use Rattle.desk.proofs.Reading.{ReadRows}
+
+-- A number in use is in range.
+in-range : (T : Table) (c x : ℕ) → refers T c 0 x ≡ true → inRange c x ≡ true
+unfolding refers inRange
+in-range T c x e = go (or-true (ltb x 2) (ltb (x - 2) c && not (ltb (T .level (x - 2)) 0)) e)
+  where
+    go : (ltb x 2 ≡ true) ⊎ ((ltb (x - 2) c && not (ltb (T .level (x - 2)) 0)) ≡ true) → ltb x (c + 2) ≡ true
+    go (inl t) = lt-ltb x (c + 2) (omega (arith, ltb-true x 2 t))
+    go (inr u) =
+        let s : x - 2 < c = ltb-true (x - 2) c (and-left (ltb (x - 2) c) (not (ltb (T .level (x - 2)) 0)) u) in
+        lt-ltb x (c + 2) (omega arith)
+
+pub ready-of : {input v l h list answer : List ℕ} {n c a b : ℕ} → ReadRows input v l h n c a b → length list ≡ 1536
+    → answerRoom ≤ length answer → Ready n c v l h a b list answer
+ready-of {n = n} r e f =
+    record {
+      some = r .some;
+      roots = record { sound = r .sound; column = omega arith; first = r .on .number; second = r .on-or-dc .number };
+      inside = ap₂ (within n) (r .on .means) (r .on-or-dc .means) ∙ r .inside;
+      level = r .level;
+      cubes = e;
+      bytes = f;
+    }
+
+-- Refusals 1 to 6 do not apply to a list or a list room of at most 16,384 cubes.
+module _ {n c : ℕ} {v l h : List ℕ} {a b : ℕ} {list answer : List ℕ} (r : Ready n c v l h a b list answer) (size : ℕ) (few : size ≤ 16384) where
+  abbrev rangeKept : Condition
+  rangeKept = record { number = outOfRange; kept = inRange c a && inRange c b }
+
+  abbrev insideKept : Condition
+  insideKept = record { number = notWithin; kept = within n (fnOf (tableOf v l h) 0 n a) (fnOf (tableOf v l h) 0 n b) }
+
+  abbrev sizeKept : Condition
+  sizeKept = record { number = listOver; kept = leb size 16384 }
+
+  pub input-kept : firstBroken (tableConditions n c v l h ++ (rangeKept ∷ insideKept ∷ sizeKept ∷ [])) ≡ 0
+  unfolding tableConditions
+  input-kept =
+      kept-before (tableConditions n c v l h) (rangeKept ∷ insideKept ∷ sizeKept ∷ []) refl (sound-unbroken n c v l h (r .roots .sound)) ∙
+      kept-next rangeKept (insideKept ∷ sizeKept ∷ [])
+      (both-in c a b (in-range (tableOf v l h) c a (r .roots .first)) (in-range (tableOf v l h) c b (r .roots .second))) ∙
+      kept-next insideKept (sizeKept ∷ []) (r .inside) ∙ kept-next sizeKept [] (le-leb size 16384 few) ∙ none-broken
+
+-- A room that not every answer fits, and one that every answer does.
+pub short-room : (w room : List ℕ) → length room < answerRoom → Answers w room room 0
+short-room w room h = record { count = rw (lt-leb answerRoom (length room) h); left = rw (lt-leb answerRoom (length room) h) }
+
+pub whole-room : {w room room′ : List ℕ} {r : ℕ} → answerRoom ≤ length room → Says w room room′ r → Answers w room room′ r
+whole-room {room = room} h s =
+    record { count = rw (le-leb answerRoom (length room) h) (s .count); left = rw (le-leb answerRoom (length room) h) (s .left) }
