@@ -17,6 +17,8 @@ use Rattle.text.specs.Writing as writing
 use Rattle.text.specs.declared.writing.Written.{Written}
 use Rattle.text.specs.Candidate.{Read, readNumbers}
 use Rattle.text.specs.declared.candidate.Candidate.{Candidate}
+use Rattle.text.specs.Function.{ReadsFunction, functionNumbers}
+use Rattle.text.specs.declared.function.Function.{Function}
 
 -- What the array of an operation holds: the root, then the count of records in use.
 unfoldable pub rootAndCount : Answer → List ℕ
@@ -58,6 +60,15 @@ returnedAndWritten a = writing.numbersOf a .returned ∷ writing.numbersOf a .wr
 unfoldable pub returnedAndRows : Candidate → List ℕ
 returnedAndRows a = readNumbers a .returned ∷ readNumbers a .rows ∷ []
 
+-- What the array of a function text's reading holds: what a refusal returns, the columns, the count of records, L and U.
+unfoldable pub returnedAndFunction : Function → List ℕ
+returnedAndFunction a =
+    functionNumbers a .returned ∷
+    functionNumbers a .columns ∷
+    functionNumbers a .count ∷
+    functionNumbers a .lower ∷
+    functionNumbers a .upper ∷ []
+
 -- The status is the answer's refusal or 0, and the array holds its other numbers.
 pub record Told (a : Answer) (status : ℕ) (out : List ℕ) : Type 0 where
   pub refusal : status ≡ numbersOf a .refusal
@@ -88,6 +99,11 @@ pub record ToldCandidate (a : Candidate) (status : ℕ) (out : List ℕ) : Type 
   pub refusal : status ≡ readNumbers a .refusal
   pub numbers : out ≡ returnedAndRows a
 
+-- The same of a function text's reading.
+pub record ToldFunction (a : Function) (status : ℕ) (out : List ℕ) : Type 0 where
+  pub refusal : status ≡ functionNumbers a .refusal
+  pub numbers : out ≡ returnedAndFunction a
+
 -- An operation that builds, with the result f: an answer that it allows is told.
 pub record Operating (n : ℕ) (c : ℕ) (v : List ℕ) (l : List ℕ) (h : List ℕ) (ranged : Bool) (f : Fn n) (v′ : List ℕ) (l′ : List ℕ) (h′ : List ℕ) (status : ℕ) (out : List ℕ) : Type 0 where
   pub answer : Answer
@@ -111,3 +127,9 @@ pub record ReadingCandidate (n : ℕ) (text : List ℕ) (room : List ℕ) (room�
   pub answer : Candidate
   pub read : Read n text room room′ answer
   pub told : ToldCandidate answer status out
+
+-- The reading of a function text: the answer that it allows is told.
+pub record ReadingFunction (text : List ℕ) (v : List ℕ) (l : List ℕ) (h : List ℕ) (v′ : List ℕ) (l′ : List ℕ) (h′ : List ℕ) (status : ℕ) (out : List ℕ) : Type 0 where
+  pub answer : Function
+  pub reads : ReadsFunction text v l h v′ l′ h′ answer
+  pub told : ToldFunction answer status out
