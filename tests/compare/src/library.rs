@@ -119,6 +119,17 @@ extern "C" {
         cubes: usize,
         out: *mut [u64; 2],
     ) -> u16;
+    fn dowrhesk_read_function(
+        text: *const u8,
+        bytes: usize,
+        level: *mut u16,
+        levels: usize,
+        low: *mut u16,
+        lows: usize,
+        high: *mut u16,
+        highs: usize,
+        out: *mut [u64; 5],
+    ) -> u16;
     fn dowrhesk_write_list(
         columns: u16,
         list: *const u32,
@@ -163,6 +174,18 @@ pub struct Checked {
     pub status: u16,
     pub kind: u64,
     pub values: [u64; 2],
+}
+
+/// The answer of a function text's reading: what a refusal returns; and the columns, the count of
+/// records and both roots.
+#[derive(Clone, Copy, PartialEq, Eq, Debug)]
+pub struct FunctionRead {
+    pub status: u16,
+    pub returned: u64,
+    pub columns: u64,
+    pub count: u64,
+    pub lower: u64,
+    pub upper: u64,
 }
 
 pub fn and(
@@ -386,6 +409,38 @@ pub fn read_candidate(columns: u16, text: &[u8], room: &mut [u32]) -> Delivered 
         dowrhesk_read_candidate(columns, text, bytes, room, cubes, &mut out)
     };
     delivered(status, out)
+}
+
+pub fn read_function(
+    text: &[u8],
+    level: &mut [u16],
+    low: &mut [u16],
+    high: &mut [u16],
+) -> FunctionRead {
+    let mut out = [UNWRITTEN; 5];
+    // Safety: as in `of_two_roots`; the text is only read.
+    let status = unsafe {
+        dowrhesk_read_function(
+            text.as_ptr(),
+            text.len(),
+            level.as_mut_ptr(),
+            level.len(),
+            low.as_mut_ptr(),
+            low.len(),
+            high.as_mut_ptr(),
+            high.len(),
+            &mut out,
+        )
+    };
+    let [returned, columns, count, lower, upper] = out;
+    FunctionRead {
+        status,
+        returned,
+        columns,
+        count,
+        lower,
+        upper,
+    }
 }
 
 pub fn write_list(columns: u16, list: &[u32], room: &mut [u8]) -> Delivered {

@@ -2,8 +2,10 @@
 
 use crate::functions::room;
 use crate::random::Random;
+use crate::tables::lent;
 use crate::tally::Tally;
-use crate::text_entry::Candidate;
+use crate::text_entry::{Candidate, FunctionText};
+use second::reading::need;
 use second::text::{read, Asked, Text};
 use std::collections::HashSet;
 
@@ -32,8 +34,23 @@ impl Reader {
         }
         self.tally.note_text(kind);
         let told = read(&text, Asked::Function);
+        self.read_function(kind, &text, told.as_ref());
         self.read_candidate(kind, columns, &text, told.as_ref());
         self.seen.insert(text);
+    }
+
+    /// Reads it as a function text: into tables that what it names fits, exactly or with records left,
+    /// and into smaller ones.
+    fn read_function(&mut self, kind: &'static str, text: &[u8], told: Result<&Text, &usize>) {
+        let lengths = told.map_or(vec![self.random.below(6)], |told| {
+            let need = need(told);
+            let (more, fewer) = (self.random.below(4), self.random.below(need + 1));
+            vec![need + more, need, need.saturating_sub(1), fewer]
+        });
+        for length in lengths {
+            let table = lent(&mut self.random, &[], length);
+            self.tally.ask(kind, &FunctionText { text, table });
+        }
     }
 
     /// Reads it as a candidate for its columns, for other ones, and for none: into rooms that the

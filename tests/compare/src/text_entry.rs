@@ -1,8 +1,11 @@
 //! One call of an entry that reads or writes a text, as the proved library and as the second program
 //! answer it.
 
+use crate::call::Slices;
 use crate::library::{self, Delivered};
 use second::candidate::read_candidate;
+use second::reading::read_function;
+use second::refusal::{MOST_BYTES, TABLE_OVER, TEXT_OVER};
 use second::writing::write_list;
 use std::fmt;
 
@@ -114,6 +117,66 @@ impl Entry for Candidate<'_> {
         let mut room = self.room.clone();
         let told = read_candidate(self.text, usize::from(self.columns), &mut room);
         of_second(told.number, told.value, told.length, room)
+    }
+}
+
+/// Everything that the reading of a function text is given.
+pub struct FunctionText<'a> {
+    pub text: &'a [u8],
+    pub table: Slices,
+}
+
+impl fmt::Display for FunctionText<'_> {
+    fn fmt(&self, f: &mut fmt::Formatter) -> fmt::Result {
+        let (text, table) = (shown(self.text), self.table.in_short(0));
+        write!(f, "function text, {table} {text}")
+    }
+}
+
+impl Entry for FunctionText<'_> {
+    const NAME: &'static str = "function text";
+    type Lent = Slices;
+
+    fn by_library(&self) -> Given<Slices> {
+        let mut table = self.table.clone();
+        let text = self.text.to_vec();
+        let (level, low, high) = (&mut table.level, &mut table.low, &mut table.high);
+        let told = library::read_function(&text, level, low, high);
+        assert!(text == self.text, "{self}\nlibrary: the text has changed");
+        Given {
+            number: u32::from(told.status),
+            returned: told.returned,
+            others: vec![told.columns, told.count, told.lower, told.upper],
+            lent: table,
+        }
+    }
+
+    fn by_second(&self) -> Given<Slices> {
+        let Some(mut records) = self.table.records() else {
+            return self.lengths_differ();
+        };
+        let told = read_function(self.text, &mut records);
+        let others = [told.columns, told.count, told.lower, told.upper];
+        Given {
+            number: told.number,
+            returned: told.value as u64,
+            others: others.map(|number| number as u64).to_vec(),
+            lent: Slices::of(&records),
+        }
+    }
+}
+
+impl FunctionText<'_> {
+    /// Slices of different length are a table over its length: nothing changes, and only a text over
+    /// its length comes first.
+    fn lengths_differ(&self) -> Given<Slices> {
+        let over = self.text.len() > MOST_BYTES;
+        Given {
+            number: if over { TEXT_OVER } else { TABLE_OVER },
+            returned: 0,
+            others: vec![0; 4],
+            lent: self.table.clone(),
+        }
     }
 }
 

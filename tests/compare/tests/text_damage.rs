@@ -4,9 +4,9 @@
 use compare::damage::Damage;
 use compare::random::Random;
 use compare::reader::Reader;
-use compare::text_entry::Candidate;
+use compare::text_entry::{Candidate, FunctionText};
 use compare::texts::{good, Form, Text};
-use second::refusal::{COLUMNS_OVER, DONE, LIST_ROOM_LACKING, TEXT_FAULT};
+use second::refusal::{COLUMNS_OVER, DONE, LIST_ROOM_LACKING, NODE_ROOM_LACKING, TEXT_FAULT};
 
 /// Texts with every directive, with few, with each type, and of 1, 2, 3 and 16 columns.
 const GOOD: [(usize, &str); 8] = [
@@ -38,6 +38,8 @@ fn assert_damaged(reader: &Reader, texts: usize) {
     assert!(tally.texts() >= texts, "{} texts", tally.texts());
     let numbers = [DONE, COLUMNS_OVER, LIST_ROOM_LACKING, TEXT_FAULT];
     tally.assert_returned::<Candidate>(&numbers, 5_000);
+    let numbers = [DONE, NODE_ROOM_LACKING, TEXT_FAULT];
+    tally.assert_returned::<FunctionText>(&numbers, 5_000);
 }
 
 #[test]

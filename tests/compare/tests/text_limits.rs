@@ -5,11 +5,12 @@ use compare::functions::room;
 use compare::lists::some_cubes;
 use compare::random::Random;
 use compare::reader::Reader;
+use compare::tables::lent;
 use compare::tally::Tally;
-use compare::text_entry::{Candidate, Given};
+use compare::text_entry::{Candidate, FunctionText, Given};
 use compare::texts::Text;
 use second::refusal::{COLUMNS_OVER, DONE, LIST_OVER, LIST_ROOM_LACKING, MOST_BYTES, MOST_CUBES};
-use second::refusal::{TEXT_FAULT, TEXT_OVER};
+use second::refusal::{MOST_RECORDS, NODE_ROOM_LACKING, TEXT_FAULT, TEXT_OVER};
 use second::writing::text_of;
 
 /// Ways to bring a text to a length.
@@ -57,6 +58,13 @@ fn texts_of_32768_and_32769_bytes() {
                 let room = room(&mut reader.random, 5);
                 refused(&mut reader.tally, (columns, &text), room, (TEXT_OVER, 0));
             }
+            for records in [0, 5, MOST_RECORDS + 1] {
+                let table = lent(&mut reader.random, &[], records);
+                let asked = FunctionText { text: &text, table };
+                let given = reader.tally.ask("too long", &asked);
+                assert_eq!(given.numbers(), (TEXT_OVER, 0, &[0; 4][..]));
+                assert!(given.lent == asked.table);
+            }
             reader.read("too long", columns, text);
         }
     }
@@ -64,6 +72,8 @@ fn texts_of_32768_and_32769_bytes() {
     reader.tally.assert_texts(&["too long"], 35);
     let numbers = [DONE, COLUMNS_OVER, LIST_ROOM_LACKING, TEXT_OVER, TEXT_FAULT];
     reader.tally.assert_returned::<Candidate>(&numbers, 10);
+    let numbers = [DONE, NODE_ROOM_LACKING, TEXT_OVER, TEXT_FAULT];
+    reader.tally.assert_returned::<FunctionText>(&numbers, 3);
 }
 
 /// Reads a candidate, which is refused; 8 and 11 leave zeros, the others what was there.

@@ -5,9 +5,10 @@ use compare::damage::{anything, change};
 use compare::random::Random;
 use compare::reader::Reader;
 use compare::tally::COLUMNS;
-use compare::text_entry::Candidate;
+use compare::text_entry::{Candidate, FunctionText};
 use compare::texts::{good, Form, Text};
-use second::refusal::{COLUMNS_OVER, DONE, LIST_ROOM_LACKING, TEXT_FAULT};
+use second::refusal::TEXT_FAULT;
+use second::refusal::{COLUMNS_OVER, DONE, LIST_ROOM_LACKING, NODE_ROOM_LACKING, ON_AND_OFF};
 
 /// A good text of at most so many rows.
 fn some(random: &mut Random, columns: usize, most: usize) -> Text {
@@ -19,6 +20,10 @@ fn some(random: &mut Random, columns: usize, most: usize) -> Text {
 fn assert_returned(reader: &Reader, least: usize) {
     let numbers = [DONE, COLUMNS_OVER, LIST_ROOM_LACKING, TEXT_FAULT];
     reader.tally.assert_returned::<Candidate>(&numbers, least);
+    let numbers = [DONE, NODE_ROOM_LACKING, TEXT_FAULT];
+    reader
+        .tally
+        .assert_returned::<FunctionText>(&numbers, least);
 }
 
 #[test]
@@ -39,6 +44,9 @@ fn changed_bytes() {
     reader.tally.assert_texts(&kinds, 20_000);
     assert!(reader.tally.texts() >= 120_000);
     assert_returned(&reader, 20_000);
+    reader
+        .tally
+        .assert_returned::<FunctionText>(&[ON_AND_OFF], 500);
 }
 
 /// Good texts of each number of columns, and with one change.
