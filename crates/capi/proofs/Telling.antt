@@ -14,8 +14,17 @@ use Rattle.list.specs.declared.entry.Generated.{Generated}
 use Rattle.list.specs.declared.entry.Generated.the-variants as generated
 use Rattle.checker.specs.declared.judged.Judged.{Judged}
 use Rattle.checker.specs.declared.judged.Judged.the-variants as judged
-use Rattle.capi.specs.Told.{rootAndCount, valueAlone, returnedAndLength, verdictNumbersOf, kindAndValues}
-use Rattle.capi.specs.Told.{Told, ToldValue, ToldList, ToldVerdict}
+use Rattle.text.specs.Writing as writing
+use Rattle.text.specs.declared.writing.Written.{Written}
+use Rattle.text.specs.declared.writing.Written.the-variants as written
+use Rattle.text.specs.Candidate.{readNumbers}
+use Rattle.text.specs.declared.candidate.Candidate.{Candidate}
+use Rattle.text.specs.declared.candidate.Candidate.the-variants as candidate
+use Rattle.text.specs.Function.{functionNumbers}
+use Rattle.text.specs.declared.function.Function.{Function}
+use Rattle.text.specs.declared.function.Function.the-variants as function
+use Rattle.capi.specs.Told.{rootAndCount, valueAlone, returnedAndLength, verdictNumbersOf, kindAndValues, returnedAndWritten, returnedAndRows}
+use Rattle.capi.specs.Told.{returnedAndFunction, Told, ToldValue, ToldList, ToldVerdict, ToldWritten, ToldCandidate, ToldFunction}
 
 pub done-told : {a : Answer} {x : ℕ} {c : ℕ} → a ≡ Done x c → Told a 0 (x ∷ c ∷ [])
 unfolding numbersOf rootAndCount
@@ -70,3 +79,29 @@ module _ {a : Judged} where
   pub check-refused-told : {r : ℕ} {x : ℕ} → a ≡ judged.Refused r x → ToldVerdict a r (x ∷ 0 ∷ 0 ∷ [])
   unfolding verdictNumbersOf kindAndValues
   check-refused-told {r} {x} e = subst⁻¹ (λ a. ToldVerdict a r (x ∷ 0 ∷ 0 ∷ [])) e (record { refusal = refl; numbers = refl })
+
+pub written-told : {a : Written} {n : ℕ} → a ≡ written.Done n → ToldWritten a 0 (0 ∷ n ∷ [])
+unfolding writing.numbersOf returnedAndWritten
+written-told {n} e = subst⁻¹ (λ a. ToldWritten a 0 (0 ∷ n ∷ [])) e (record { refusal = refl; numbers = refl })
+
+pub written-refused-told : {a : Written} {r : ℕ} {x : ℕ} → a ≡ written.Refused r x → ToldWritten a r (x ∷ 0 ∷ [])
+unfolding writing.numbersOf returnedAndWritten
+written-refused-told {r} {x} e = subst⁻¹ (λ a. ToldWritten a r (x ∷ 0 ∷ [])) e (record { refusal = refl; numbers = refl })
+
+pub candidate-told : {a : Candidate} {n : ℕ} → a ≡ candidate.Done n → ToldCandidate a 0 (0 ∷ n ∷ [])
+unfolding readNumbers returnedAndRows
+candidate-told {n} e = subst⁻¹ (λ a. ToldCandidate a 0 (0 ∷ n ∷ [])) e (record { refusal = refl; numbers = refl })
+
+pub candidate-refused-told : {a : Candidate} {r : ℕ} {x : ℕ} → a ≡ candidate.Refused r x → ToldCandidate a r (x ∷ 0 ∷ [])
+unfolding readNumbers returnedAndRows
+candidate-refused-told {r} {x} e = subst⁻¹ (λ a. ToldCandidate a r (x ∷ 0 ∷ [])) e (record { refusal = refl; numbers = refl })
+
+pub function-told : {a : Function} {n : ℕ} {c : ℕ} {x : ℕ} {y : ℕ} → a ≡ function.Done n c x y → ToldFunction a 0 (0 ∷ n ∷ c ∷ x ∷ y ∷ [])
+unfolding functionNumbers returnedAndFunction
+function-told {n} {c} {x} {y} e =
+    subst⁻¹ (λ a. ToldFunction a 0 (0 ∷ n ∷ c ∷ x ∷ y ∷ [])) e (record { refusal = refl; numbers = refl })
+
+pub function-refused-told : {a : Function} {r : ℕ} {x : ℕ} → a ≡ function.Refused r x → ToldFunction a r (x ∷ 0 ∷ 0 ∷ 0 ∷ 0 ∷ [])
+unfolding functionNumbers returnedAndFunction
+function-refused-told {r} {x} e =
+    subst⁻¹ (λ a. ToldFunction a r (x ∷ 0 ∷ 0 ∷ 0 ∷ 0 ∷ [])) e (record { refusal = refl; numbers = refl })

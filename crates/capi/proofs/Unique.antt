@@ -10,7 +10,12 @@ use Rattle.graph.proofs.Unique.{operated-unique}
 use Rattle.list.specs.Entry as list
 use Rattle.list.proofs.Delivered.{generates-unique}
 use Rattle.checker.specs.declared.judged.Judged.{Judged}
-use Rattle.capi.specs.Told.{rootAndCount, returnedAndLength, Operating, ToldValue, ToldVerdict, Generating}
+use Rattle.text.specs.Writing as writing
+use Rattle.text.specs.Candidate.{readNumbers}
+use Rattle.text.specs.Function.{functionNumbers}
+use Rattle.text.proofs.FunctionUnique.{reads-function-unique}
+use Rattle.capi.specs.Told.{rootAndCount, returnedAndLength, returnedAndWritten, returnedAndRows, returnedAndFunction}
+use Rattle.capi.specs.Told.{Operating, ToldValue, ToldVerdict, Generating, WritingList, ReadingCandidate, ReadingFunction}
 
 module _ {n : ℕ} {c : ℕ} {v : List ℕ} {l : List ℕ} {h : List ℕ} {ranged : Bool} {f : Fn n} {v₁ : List ℕ} {l₁ : List ℕ} {h₁ : List ℕ} {s₁ : ℕ} {o₁ : List ℕ} {v₂ : List ℕ} {l₂ : List ℕ} {h₂ : List ℕ} {s₂ : ℕ} {o₂ : List ℕ} where
   pub operating-unique : Operating n c v l h ranged f v₁ l₁ h₁ s₁ o₁ → Operating n c v l h ranged f v₂ l₂ h₂ s₂ o₂ →
@@ -43,4 +48,34 @@ module _ {n : ℕ} {c : ℕ} {v : List ℕ} {l : List ℕ} {h : List ℕ} {a : �
         same .2,
         same .3,
         same .4,
+      )
+
+module _ {n : ℕ} {xs : List ℕ} {room : List ℕ} {room₁ : List ℕ} {s₁ : ℕ} {o₁ : List ℕ} {room₂ : List ℕ} {s₂ : ℕ} {o₂ : List ℕ} where
+  pub writing-unique : WritingList n xs room room₁ s₁ o₁ → WritingList n xs room room₂ s₂ o₂ → (s₁ ≡ s₂) × (o₁ ≡ o₂) × (room₁ ≡ room₂)
+  writing-unique p q =
+      let same = p .wrote .answer ∙ sym (q .wrote .answer) in (
+        p .told .refusal ∙ ap (λ a. writing.numbersOf a .refusal) same ∙ sym (q .told .refusal),
+        p .told .numbers ∙ ap returnedAndWritten same ∙ sym (q .told .numbers),
+        p .wrote .left ∙ sym (q .wrote .left),
+      )
+
+  pub candidate-unique : ReadingCandidate n xs room room₁ s₁ o₁ → ReadingCandidate n xs room room₂ s₂ o₂ →
+      (s₁ ≡ s₂) × (o₁ ≡ o₂) × (room₁ ≡ room₂)
+  candidate-unique p q =
+      let same = p .read .answer ∙ sym (q .read .answer) in (
+        p .told .refusal ∙ ap (λ a. readNumbers a .refusal) same ∙ sym (q .told .refusal),
+        p .told .numbers ∙ ap returnedAndRows same ∙ sym (q .told .numbers),
+        p .read .left ∙ sym (q .read .left),
+      )
+
+module _ {text : List ℕ} {v : List ℕ} {l : List ℕ} {h : List ℕ} {v₁ : List ℕ} {l₁ : List ℕ} {h₁ : List ℕ} {s₁ : ℕ} {o₁ : List ℕ} {v₂ : List ℕ} {l₂ : List ℕ} {h₂ : List ℕ} {s₂ : ℕ} {o₂ : List ℕ} where
+  pub function-unique : ReadingFunction text v l h v₁ l₁ h₁ s₁ o₁ → ReadingFunction text v l h v₂ l₂ h₂ s₂ o₂ →
+      (s₁ ≡ s₂) × (o₁ ≡ o₂) × (v₁ ≡ v₂) × (l₁ ≡ l₂) × (h₁ ≡ h₂)
+  function-unique p q =
+      let same = reads-function-unique (p .reads) (q .reads) in (
+        p .told .refusal ∙ ap (λ a. functionNumbers a .refusal) (same .0) ∙ sym (q .told .refusal),
+        p .told .numbers ∙ ap returnedAndFunction (same .0) ∙ sym (q .told .numbers),
+        same .1,
+        same .2,
+        same .3,
       )

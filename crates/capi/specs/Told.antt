@@ -12,6 +12,13 @@ use Rattle.list.specs.Entry as list
 use Rattle.list.specs.declared.entry.Generated.{Generated}
 use Rattle.checker.specs.declared.judged.Judged.{Judged}
 use Rattle.checker.specs.declared.judged.Judged.the-variants as judged
+use Rattle.text.specs.Writing.{Wrote}
+use Rattle.text.specs.Writing as writing
+use Rattle.text.specs.declared.writing.Written.{Written}
+use Rattle.text.specs.Candidate.{Read, readNumbers}
+use Rattle.text.specs.declared.candidate.Candidate.{Candidate}
+use Rattle.text.specs.Function.{ReadsFunction, functionNumbers}
+use Rattle.text.specs.declared.function.Function.{Function}
 
 -- What the array of an operation holds: the root, then the count of records in use.
 unfoldable pub rootAndCount : Answer → List ℕ
@@ -45,6 +52,23 @@ verdictNumbersOf (judged.Refused r x) = record { refusal = r; kind = x; value₁
 unfoldable pub kindAndValues : Judged → List ℕ
 kindAndValues a = verdictNumbersOf a .kind ∷ verdictNumbersOf a .value₁ ∷ verdictNumbersOf a .value₂ ∷ []
 
+-- What the array of the writing holds: what a refusal returns, then the bytes written.
+unfoldable pub returnedAndWritten : Written → List ℕ
+returnedAndWritten a = writing.numbersOf a .returned ∷ writing.numbersOf a .written ∷ []
+
+-- What the array of a candidate's reading holds: what a refusal returns, then the number of rows.
+unfoldable pub returnedAndRows : Candidate → List ℕ
+returnedAndRows a = readNumbers a .returned ∷ readNumbers a .rows ∷ []
+
+-- What the array of a function text's reading holds: what a refusal returns, the columns, the count of records, L and U.
+unfoldable pub returnedAndFunction : Function → List ℕ
+returnedAndFunction a =
+    functionNumbers a .returned ∷
+    functionNumbers a .columns ∷
+    functionNumbers a .count ∷
+    functionNumbers a .lower ∷
+    functionNumbers a .upper ∷ []
+
 -- The status is the answer's refusal or 0, and the array holds its other numbers.
 pub record Told (a : Answer) (status : ℕ) (out : List ℕ) : Type 0 where
   pub refusal : status ≡ numbersOf a .refusal
@@ -65,6 +89,21 @@ pub record ToldVerdict (a : Judged) (status : ℕ) (out : List ℕ) : Type 0 whe
   pub refusal : status ≡ verdictNumbersOf a .refusal
   pub numbers : out ≡ kindAndValues a
 
+-- The same of a writing.
+pub record ToldWritten (a : Written) (status : ℕ) (out : List ℕ) : Type 0 where
+  pub refusal : status ≡ writing.numbersOf a .refusal
+  pub numbers : out ≡ returnedAndWritten a
+
+-- The same of a candidate's reading.
+pub record ToldCandidate (a : Candidate) (status : ℕ) (out : List ℕ) : Type 0 where
+  pub refusal : status ≡ readNumbers a .refusal
+  pub numbers : out ≡ returnedAndRows a
+
+-- The same of a function text's reading.
+pub record ToldFunction (a : Function) (status : ℕ) (out : List ℕ) : Type 0 where
+  pub refusal : status ≡ functionNumbers a .refusal
+  pub numbers : out ≡ returnedAndFunction a
+
 -- An operation that builds, with the result f: an answer that it allows is told.
 pub record Operating (n : ℕ) (c : ℕ) (v : List ℕ) (l : List ℕ) (h : List ℕ) (ranged : Bool) (f : Fn n) (v′ : List ℕ) (l′ : List ℕ) (h′ : List ℕ) (status : ℕ) (out : List ℕ) : Type 0 where
   pub answer : Answer
@@ -76,3 +115,21 @@ pub record Generating (n : ℕ) (c : ℕ) (v : List ℕ) (l : List ℕ) (h : Lis
   pub answer : Generated
   pub generates : Generates n c v l h a b room v′ l′ h′ room′ answer
   pub told : ToldList answer status out
+
+-- The writing of a list xs for n columns: the answer that it allows is told.
+pub record WritingList (n : ℕ) (xs : List ℕ) (room : List ℕ) (room′ : List ℕ) (status : ℕ) (out : List ℕ) : Type 0 where
+  pub answer : Written
+  pub wrote : Wrote n xs room room′ answer
+  pub told : ToldWritten answer status out
+
+-- The reading of a candidate for n columns: the answer that it allows is told.
+pub record ReadingCandidate (n : ℕ) (text : List ℕ) (room : List ℕ) (room′ : List ℕ) (status : ℕ) (out : List ℕ) : Type 0 where
+  pub answer : Candidate
+  pub read : Read n text room room′ answer
+  pub told : ToldCandidate answer status out
+
+-- The reading of a function text: the answer that it allows is told.
+pub record ReadingFunction (text : List ℕ) (v : List ℕ) (l : List ℕ) (h : List ℕ) (v′ : List ℕ) (l′ : List ℕ) (h′ : List ℕ) (status : ℕ) (out : List ℕ) : Type 0 where
+  pub answer : Function
+  pub reads : ReadsFunction text v l h v′ l′ h′ answer
+  pub told : ToldFunction answer status out

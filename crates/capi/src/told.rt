@@ -1,10 +1,13 @@
 // Answers told in numbers.
-ghost use Rattle.capi.specs.Told.{Told, ToldValue, ToldList, ToldVerdict};
+ghost use Rattle.capi.specs.Told.{Told, ToldValue, ToldList, ToldVerdict, ToldWritten, ToldCandidate, ToldFunction};
 use checker::judged::Judged;
 use graph::entry::Answer;
 use graph::entry::Valued;
 use list::entry::Generated;
 use rule::refusal;
+use text::candidate::Candidate;
+use text::function::Function;
+use text::writing::Written;
 
 // The status of an answer; its root and its count go into the array.
 pub fn tell(answer: Answer, out: &mut [u64; 2]) -> u16
@@ -81,6 +84,55 @@ pub fn tell_verdict(answer: Judged, out: &mut [u64; 3]) -> u16
         }
         Judged::Refused(number, returned) => {
             *out = [returned as u64, 0, 0];
+            number
+        }
+    }
+}
+
+// The status of a writing; what a refusal returns and the bytes written go into the array.
+pub fn tell_written(answer: Written, out: &mut [u64; 2]) -> u16
+    ensures { λ r. ⌜ ToldWritten answer r (now (out .exit)) ⌝ }
+{
+    match answer {
+        Written::Done(written) => {
+            *out = [0, written as u64];
+            refusal::DONE
+        }
+        Written::Refused(number, returned) => {
+            *out = [returned as u64, 0];
+            number
+        }
+    }
+}
+
+// The status of a candidate's reading; what a refusal returns and the length of the list go into the array.
+pub fn tell_candidate(answer: Candidate, out: &mut [u64; 2]) -> u16
+    ensures { λ r. ⌜ ToldCandidate answer r (now (out .exit)) ⌝ }
+{
+    match answer {
+        Candidate::Done(rows) => {
+            *out = [0, rows as u64];
+            refusal::DONE
+        }
+        Candidate::Refused(number, returned) => {
+            *out = [returned as u64, 0];
+            number
+        }
+    }
+}
+
+// The status of a function text's reading; what a refusal returns, the columns, the count of records, L and U go into the
+// array.
+pub fn tell_function(answer: Function, out: &mut [u64; 5]) -> u16
+    ensures { λ r. ⌜ ToldFunction answer r (now (out .exit)) ⌝ }
+{
+    match answer {
+        Function::Done(columns, count, lower, upper) => {
+            *out = [0, columns as u64, count as u64, lower as u64, upper as u64];
+            refusal::DONE
+        }
+        Function::Refused(number, returned) => {
+            *out = [returned as u64, 0, 0, 0, 0];
             number
         }
     }

@@ -2,16 +2,22 @@
 //! the answer and of what was lent has to be the same.
 //!
 //! `library` calls the static library; `call` is one call of an operation as both answer it,
-//! `generation` one of the generator and `check` one of the checker; `tables` makes tables that keep
-//! their rule, and breaks them in one place; `functions` makes functions with don't cares, and lays
-//! them into tables; `lists` changes lists; `random` and `tally` serve the tests.
+//! `generation` one of the generator, `check` one of the checker and `text_entry` one of an entry for
+//! texts; `tables` makes tables that keep their rule, and breaks them in one place; `functions` makes
+//! functions with don't cares, and lays them into tables; `lists` changes lists; `texts` makes texts
+//! without fault, `damage` those with one fault or some, and `reader` reads them in every way; `random`
+//! and `tally` serve the tests.
 
 pub mod call;
 pub mod check;
+pub mod damage;
 pub mod functions;
 pub mod generation;
 pub mod library;
 pub mod lists;
 pub mod random;
+pub mod reader;
 pub mod tables;
 pub mod tally;
+pub mod text_entry;
+pub mod texts;

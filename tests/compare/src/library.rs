@@ -111,6 +111,33 @@ extern "C" {
         cubes: usize,
         out: *mut [u64; 3],
     ) -> u16;
+    fn dowrhesk_read_candidate(
+        columns: u16,
+        text: *const u8,
+        bytes: usize,
+        room: *mut u32,
+        cubes: usize,
+        out: *mut [u64; 2],
+    ) -> u16;
+    fn dowrhesk_read_function(
+        text: *const u8,
+        bytes: usize,
+        level: *mut u16,
+        levels: usize,
+        low: *mut u16,
+        lows: usize,
+        high: *mut u16,
+        highs: usize,
+        out: *mut [u64; 5],
+    ) -> u16;
+    fn dowrhesk_write_list(
+        columns: u16,
+        list: *const u32,
+        cubes: usize,
+        room: *mut u8,
+        bytes: usize,
+        out: *mut [u64; 2],
+    ) -> u16;
 }
 
 /// What the arrays hold before a call, so that an answer that was not written is noticed.
@@ -131,9 +158,10 @@ pub struct Valued {
     pub value: u64,
 }
 
-/// The answer of the generator: what a refusal returns, and the length of the list.
+/// The answer of the generator, of a candidate's reading and of writing: what a refusal returns, and
+/// the length of the list or the text that stands in the room.
 #[derive(Clone, Copy, PartialEq, Eq, Debug)]
-pub struct Generated {
+pub struct Delivered {
     pub status: u16,
     pub returned: u64,
     pub length: u64,
@@ -146,6 +174,18 @@ pub struct Checked {
     pub status: u16,
     pub kind: u64,
     pub values: [u64; 2],
+}
+
+/// The answer of a function text's reading: what a refusal returns; and the columns, the count of
+/// records and both roots.
+#[derive(Clone, Copy, PartialEq, Eq, Debug)]
+pub struct FunctionRead {
+    pub status: u16,
+    pub returned: u64,
+    pub columns: u64,
+    pub count: u64,
+    pub lower: u64,
+    pub upper: u64,
 }
 
 pub fn and(
@@ -291,7 +331,7 @@ pub fn generate(
     lower: u16,
     upper: u16,
     room: &mut [u32],
-) -> Generated {
+) -> Delivered {
     let mut out = [UNWRITTEN; 2];
     // Safety: as in `of_two_roots`.
     let status = unsafe {
@@ -311,8 +351,11 @@ pub fn generate(
             &mut out,
         )
     };
-    let [returned, length] = out;
-    Generated {
+    delivered(status, out)
+}
+
+fn delivered(status: u16, [returned, length]: [u64; 2]) -> Delivered {
+    Delivered {
         status,
         returned,
         length,
@@ -355,4 +398,58 @@ pub fn check(
         kind,
         values,
     }
+}
+
+pub fn read_candidate(columns: u16, text: &[u8], room: &mut [u32]) -> Delivered {
+    let mut out = [UNWRITTEN; 2];
+    let (bytes, cubes) = (text.len(), room.len());
+    // Safety: as in `of_two_roots`; the text is only read.
+    let status = unsafe {
+        let (text, room) = (text.as_ptr(), room.as_mut_ptr());
+        dowrhesk_read_candidate(columns, text, bytes, room, cubes, &mut out)
+    };
+    delivered(status, out)
+}
+
+pub fn read_function(
+    text: &[u8],
+    level: &mut [u16],
+    low: &mut [u16],
+    high: &mut [u16],
+) -> FunctionRead {
+    let mut out = [UNWRITTEN; 5];
+    // Safety: as in `of_two_roots`; the text is only read.
+    let status = unsafe {
+        dowrhesk_read_function(
+            text.as_ptr(),
+            text.len(),
+            level.as_mut_ptr(),
+            level.len(),
+            low.as_mut_ptr(),
+            low.len(),
+            high.as_mut_ptr(),
+            high.len(),
+            &mut out,
+        )
+    };
+    let [returned, columns, count, lower, upper] = out;
+    FunctionRead {
+        status,
+        returned,
+        columns,
+        count,
+        lower,
+        upper,
+    }
+}
+
+pub fn write_list(columns: u16, list: &[u32], room: &mut [u8]) -> Delivered {
+    let mut out = [UNWRITTEN; 2];
+    let (cubes, bytes) = (list.len(), room.len());
+    // Safety: as in `of_two_roots`; the list is only read.
+    let status = unsafe {
+        let (list, room) = (list.as_ptr(), room.as_mut_ptr());
+        dowrhesk_write_list(columns, list, cubes, room, bytes, &mut out)
+    };
+    delivered(status, out)
 }

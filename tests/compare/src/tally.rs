@@ -3,12 +3,33 @@
 use crate::call::{Asked, Call, Outcome};
 use crate::check::{Check, Judged};
 use crate::generation::{Generation, Listed};
+use crate::text_entry::{Entry, Given};
 use std::collections::BTreeMap;
 
 /// What a generation is counted as, beside the operations.
 const GENERATE: &str = "generate";
 /// And what a check is counted as.
 const CHECK: &str = "check";
+/// And what a text is counted as, however often it is read.
+const TEXT: &str = "text";
+
+/// A name for each number that is returned.
+pub const NUMBERS: [&str; 14] = [
+    "done",
+    "refused 1",
+    "refused 2",
+    "refused 3",
+    "refused 4",
+    "refused 5",
+    "refused 6",
+    "refused 7",
+    "refused 8",
+    "refused 9",
+    "refused 10",
+    "refused 11",
+    "refused 12",
+    "refused 13",
+];
 
 /// A name for each number of columns.
 pub const COLUMNS: [&str; 17] = [
@@ -35,6 +56,7 @@ pub const COLUMNS: [&str; 17] = [
 pub struct Tally {
     counts: BTreeMap<(&'static str, &'static str), usize>,
     calls: usize,
+    texts: usize,
 }
 
 impl Tally {
@@ -82,12 +104,31 @@ impl Tally {
         self.count(kind, CHECK);
     }
 
+    /// Calls an entry for texts, by both programs, and counts the call and the number returned.
+    pub fn ask<E: Entry>(&mut self, kind: &'static str, entry: &E) -> Given<E::Lent> {
+        let given = entry.given();
+        self.count(kind, E::NAME);
+        self.count(NUMBERS[given.number as usize], E::NAME);
+        self.calls += 1;
+        given
+    }
+
+    /// Counts one more text of a kind.
+    pub fn note_text(&mut self, kind: &'static str) {
+        self.count(kind, TEXT);
+        self.texts += 1;
+    }
+
     fn count(&mut self, kind: &'static str, operation: &'static str) {
         *self.counts.entry((kind, operation)).or_default() += 1;
     }
 
     pub fn calls(&self) -> usize {
         self.calls
+    }
+
+    pub fn texts(&self) -> usize {
+        self.texts
     }
 
     /// Each of the kinds was called at least so often, of each of the operations.
@@ -108,6 +149,18 @@ impl Tally {
     /// The same for checks; a kind may be the name of an answer.
     pub fn assert_checked(&self, kinds: &[&'static str], least: usize) {
         self.assert_each(kinds, &[CHECK], least);
+    }
+
+    /// The same for texts.
+    pub fn assert_texts(&self, kinds: &[&'static str], least: usize) {
+        self.assert_each(kinds, &[TEXT], least);
+    }
+
+    /// An entry for texts returned each of the numbers at least so often.
+    pub fn assert_returned<E: Entry>(&self, numbers: &[u32], least: usize) {
+        for &number in numbers {
+            self.assert_each(&[NUMBERS[number as usize]], &[E::NAME], least);
+        }
     }
 
     /// The same for every operation.
