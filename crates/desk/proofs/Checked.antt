@@ -16,9 +16,9 @@ use Rattle.rule.specs.Rows.{Kind, Row, lowerOf, upperOf}
 use Rattle.rule.specs.Verdict.{Verdict, accept, off, missing, literal, cube, first, verdictNumbers}
 use Rattle.rule.proofs.Delivered.{AllFormed}
 use Rattle.rule.proofs.Search.{no-first}
-use Rattle.graph.specs.Entry.{tableConditions, inputConditions}
 use Rattle.graph.specs.Table.{tableOf, fnOf}
-use Rattle.graph.proofs.Refusals.{kept-next, none-broken, kept-before, first-kept, others-kept}
+use Rattle.graph.proofs.Refusals.{kept-next, none-broken, first-kept, others-kept}
+use Rattle.graph.proofs.Roots.{past-input}
 use Rattle.line.specs.Bytes.{lines}
 use Rattle.line.specs.Meaning.{bytesToEnd, afterEnd}
 use Rattle.checker.specs.Judging.{judgedAs, placeNumber}
@@ -76,10 +76,10 @@ none-malformed n xs f =
 module _ {n c : ℕ} {v l h : List ℕ} {a b : ℕ} {list answer : List ℕ} (r : Ready n c v l h a b list answer)
     (xs : List ℕ) (few : length xs ≤ 16384) (formed : AllFormed n xs) where
   none-refused : refusal n c v l h a b xs ≡ 0
-  unfolding refusal inputConditions tableConditions
+  unfolding refusal
   none-refused =
       let formedKept : Condition = record { number = cubeMalformed; kept = eqb (malformedPlace n xs) 0 } in
-      kept-before (inputConditions n c v l h a b (length xs)) (formedKept ∷ []) refl (input-kept r (length xs) few) ∙
+      past-input n c v l h a b (length xs) (formedKept ∷ []) (input-kept r (length xs) few) ∙
       kept-next formedKept [] (eq-eqb (malformedPlace n xs) 0 (none-malformed n xs formed)) ∙ none-broken
 
   pub verdict-told : judgedText n (answerFor n c v l h a b xs (refusal n c v l h a b xs))

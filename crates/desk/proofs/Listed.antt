@@ -17,9 +17,9 @@ use Rattle.rule.specs.Refusal.{Condition, firstBroken, nodesLack, listLacks}
 use Rattle.rule.specs.Rule.{listOf, listNumbers}
 use Rattle.rule.proofs.Bools.{which}
 use Rattle.rule.proofs.Delivered.{AllFormed, list-formed}
-use Rattle.graph.specs.Entry.{tableConditions, inputConditions}
 use Rattle.graph.specs.Table.{tableOf, functions}
-use Rattle.graph.proofs.Refusals.{first-kept, others-kept, kept-before}
+use Rattle.graph.proofs.Refusals.{first-kept, others-kept}
+use Rattle.graph.proofs.Roots.{past-input}
 use Rattle.line.specs.Decimal.{decimal}
 use Rattle.line.proofs.Decimal.{length-one, length-two, length-three, length-four}
 use Rattle.list.specs.Entry.{lower, upper, theList, roomConditions, refusal, answerFor, changesNothing, roomLeft, Generates}
@@ -88,9 +88,9 @@ module _ {n c : ℕ} {v l h : List ℕ} {a b : ℕ} {list answer : List ℕ} (r 
 
   -- Refusals 1 to 6 do not apply.
   pub by-rooms : refused ≡ firstBroken (roomConditions n c v l h a b list)
-  unfolding refusal inputConditions tableConditions
+  unfolding refusal
   by-rooms =
-      kept-before (inputConditions n c v l h a b (length list)) (roomConditions n c v l h a b list) refl
+      past-input n c v l h a b (length list) (roomConditions n c v l h a b list)
       (input-kept r (length list) (omega (arith, r .cubes)))
 
   small : length xs ≤ 43046721
