@@ -1,21 +1,20 @@
 -- A function that was read is fit for the generator and the checker: what they ask of the input is kept.
-use mathlib.Core.Path.{_≡_, refl, ap₂, _∙_}
-use mathlib.Core.Bool.{true, not, _&&_, _||_}
-use mathlib.Core.List.{List, [], _∷_, _++_}
+use mathlib.Core.Path.{_≡_, ap₂, _∙_}
+use mathlib.Core.Bool.{true, not, _&&_}
+use mathlib.Core.List.{List}
 use mathlib.Core.Logic.{_⊎_, inl, inr}
 use Prim.Native.Nat.{ℕ, _+_, _-_, _≤_, _<_}
 use native.Mathlib.Omega.{arith}
-use lib.Dec.{leb, ltb}
+use lib.Dec.{ltb}
 use lib.ListN.{length}
 use borrow.Author.Tests.{le-leb, lt-leb, lt-ltb, ltb-true}
 use Rattle.rule.specs.Func.{within}
-use Rattle.rule.specs.Refusal.{Condition, firstBroken, outOfRange, notWithin, listOver}
+use Rattle.rule.specs.Refusal.{firstBroken}
 use Rattle.rule.proofs.Bools.{and-left, or-true}
 use Rattle.graph.specs.Entry.{inputConditions, inRange}
-use Rattle.graph.specs.Table.{Table, tableOf, fnOf, refers}
+use Rattle.graph.specs.Table.{Table, tableOf, refers}
 use Rattle.graph.proofs.Entries.{both-in}
 use Rattle.graph.proofs.Roots.{good-input}
-use Rattle.text.specs.Room.{padded}
 use Rattle.desk.specs.Answer.{answerRoom, Answers}
 use Rattle.desk.specs.Judged.{Says}
 use Rattle.desk.specs.Contract.{Ready}
