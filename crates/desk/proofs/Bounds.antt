@@ -1,5 +1,5 @@
 -- Every answer has at least one byte and fits the answer room; so what a program's function returns counts bytes of that room.
-use mathlib.Core.Path.{_≡_, refl, sym, ap, _∙_}
+use mathlib.Core.Path.{_≡_, refl, ap}
 use mathlib.Core.Bool.{Bool, true, false, cond}
 use mathlib.Core.List.{List, [], _∷_, _++_}
 use Prim.Native.Nat.{ℕ, zero, suc, _+_, _-_, _≤_}
@@ -10,22 +10,20 @@ use borrow.Author.Tests.{leb-true}
 use Rattle.rule.specs.Nodes.{addAll, need}
 use Rattle.rule.specs.Refusal.{Condition, firstBroken, nodesLack, listLacks}
 use Rattle.rule.specs.Rows.{Kind, Row, lowerOf, upperOf, readingNames}
-use Rattle.rule.specs.Verdict.{Verdict, accept, off, missing, literal, cube, verdictNumbers}
+use Rattle.rule.specs.Verdict.{Verdict, accept, off, missing, literal, cube}
 use Rattle.rule.proofs.Bools.{clash}
 use Rattle.graph.proofs.Refusals.{first-kept, others-kept}
 use Rattle.line.specs.Bytes.{bytes}
 use Rattle.line.specs.Meaning.{afterEnd}
 use Rattle.text.specs.Outcome.{Outcome, good, fault, outcome}
-use Rattle.text.specs.Judged.{kindFor, judgedPlus, judged}
-use Rattle.text.specs.Candidate.{isGood, cubesOf, readConditions, readReturns}
+use Rattle.text.specs.Candidate.{isGood, readConditions}
 use Rattle.text.specs.Room.{padded}
-use Rattle.text.specs.Writing.{joined, listText}
-use Rattle.text.proofs.Reading.{judged-good}
+use Rattle.text.specs.Writing.{joined}
 use Rattle.text.proofs.Written.{length-text}
 use Rattle.desk.specs.Said.{numeral, pointText, refusedText, verdictText}
 use Rattle.desk.specs.Answer.{inputRefusal, answerBy, rowsList, listRefusal, listSaid, listAnswer, candidateSaid, checkAnswer, answerRoom, Answers}
 use Rattle.desk.proofs.Saying.{length-numeral, length-point}
-use Rattle.desk.proofs.Reading.{kept-good}
+use Rattle.desk.proofs.Reading.{kept-good, good-columns}
 use Rattle.desk.proofs.Listed.{text-fits}
 
 -- At least one byte, and no more than the room.
@@ -92,12 +90,12 @@ candidate-inside n t rows text h (suc r) = refused-inside (suc r) _
 -- What is said of a function text, whatever follows one that was read.
 answer-inside : (input : List ℕ) (next : (n : ℕ) → Kind → List Row → List ℕ) → ((n : ℕ) (t : Kind) (rows : List Row) → n ≤ 16 → Inside (next n t rows))
     → Inside (answerBy input (inputRefusal input) (outcome 0 input) next)
-unfolding answerBy isGood judged judgedPlus
+unfolding answerBy isGood
 answer-inside input next f = go (inputRefusal input) refl (outcome 0 input) refl
   where
     go : (r : ℕ) → inputRefusal input ≡ r → (w : Outcome) → outcome 0 input ≡ w → Inside (answerBy input r w next)
     go (suc r) z w o = refused-inside (suc r) _
-    go zero z (good n t rows) o = f n t rows (judged-good input n (kindFor t) (0 + length rows) (sym (ap judged o)) .few)
+    go zero z (good n t rows) o = f n t rows (good-columns input n t rows o .1)
     go zero z (fault k) o = clash (kept-good input z) (ap isGood o)
 
 -- The theorems.

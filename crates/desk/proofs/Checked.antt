@@ -1,24 +1,23 @@
 -- The second program: the ways out of `say_verdict`, and what it says of the rows that were read.
-use mathlib.Core.Path.{_≡_, refl, sym, ap, ap₂, _∙_, subst, subst⁻¹}
+use mathlib.Core.Path.{_≡_, refl, sym, ap, ap₂, _∙_}
 use mathlib.Core.Bool.{Bool, true, false, cond, not, _&&_}
 use mathlib.Core.List.{List, [], _∷_, _++_}
-use mathlib.Core.Option.{Option, none}
 use Prim.Native.Nat.{ℕ, zero, suc, _+_, _-_, _≤_, _<_}
 use native.Mathlib.Omega.{arith}
 use lib.Dec.{eqb, leb}
-use lib.ListN.{length, take, drop, getD, replicate, length-append, length-drop}
+use lib.ListN.{length, take, getD, replicate, length-append, length-drop}
 use lib.Seq.{take-at, length-take-le}
 use borrow.Author.Tests.{leb-true, eq-eqb}
 use Rattle.rule.specs.Func.{Fn}
 use Rattle.rule.specs.Number.{wellFormed}
 use Rattle.rule.specs.Refusal.{Condition, firstBroken, columnsOver, textOver, listOver, textFault, listLacks, cubeMalformed}
 use Rattle.rule.specs.Rows.{Kind, Row, lowerOf, upperOf}
-use Rattle.rule.specs.Verdict.{Verdict, accept, off, missing, literal, cube, first, verdictNumbers}
+use Rattle.rule.specs.Verdict.{Verdict, accept, off, missing, literal, cube, verdictNumbers}
 use Rattle.rule.proofs.Delivered.{AllFormed}
 use Rattle.rule.proofs.Search.{no-first}
-use Rattle.graph.specs.Entry.{tableConditions, inputConditions}
 use Rattle.graph.specs.Table.{tableOf, fnOf}
-use Rattle.graph.proofs.Refusals.{kept-next, none-broken, kept-before, first-kept, others-kept}
+use Rattle.graph.proofs.Refusals.{kept-next, none-broken, first-kept, others-kept}
+use Rattle.graph.proofs.Roots.{past-input}
 use Rattle.line.specs.Bytes.{lines}
 use Rattle.line.specs.Meaning.{bytesToEnd, afterEnd}
 use Rattle.checker.specs.Judging.{judgedAs, placeNumber}
@@ -30,7 +29,7 @@ use Rattle.text.specs.Candidate.{isGood, faultLine, cubesOf, readConditions, re
 use Rattle.text.specs.declared.candidate.Candidate.{Candidate}
 use Rattle.text.specs.declared.candidate.Candidate.the-variants as read
 use Rattle.desk.specs.Said.{refusedText, verdictText}
-use Rattle.desk.specs.Answer.{inputRefusal, answerBy, candidateSaid, checkAnswer}
+use Rattle.desk.specs.Answer.{answerBy, candidateSaid, checkAnswer}
 use Rattle.desk.specs.Judged.{judgedText}
 use Rattle.desk.specs.Contract.{Ready, candidateFor}
 use Rattle.desk.proofs.Outcomes.{candidate-formed, few-cubes, early-fault}
@@ -76,10 +75,10 @@ none-malformed n xs f =
 module _ {n c : ℕ} {v l h : List ℕ} {a b : ℕ} {list answer : List ℕ} (r : Ready n c v l h a b list answer)
     (xs : List ℕ) (few : length xs ≤ 16384) (formed : AllFormed n xs) where
   none-refused : refusal n c v l h a b xs ≡ 0
-  unfolding refusal inputConditions tableConditions
+  unfolding refusal
   none-refused =
       let formedKept : Condition = record { number = cubeMalformed; kept = eqb (malformedPlace n xs) 0 } in
-      kept-before (inputConditions n c v l h a b (length xs)) (formedKept ∷ []) refl (input-kept r (length xs) few) ∙
+      past-input n c v l h a b (length xs) (formedKept ∷ []) (input-kept r (length xs) few) ∙
       kept-next formedKept [] (eq-eqb (malformedPlace n xs) 0 (none-malformed n xs formed)) ∙ none-broken
 
   pub verdict-told : judgedText n (answerFor n c v l h a b xs (refusal n c v l h a b xs))

@@ -1,4 +1,4 @@
--- The laws of the programs' answers.
+-- The theorems about the programs' answers, and the laws that the functions' proofs cite, one concept to a file.
 pub mod Examples
 pub mod Saying
 pub mod Outcomes
@@ -7,3 +7,4 @@ pub mod Prepared
 pub mod Listed
 pub mod Checked
 pub mod Bounds
+pub mod Unique

@@ -1,7 +1,7 @@
 -- The first program: the ways out of `say_list`, and what it says of the rows that were read.
 use mathlib.Core.Path.{_≡_, refl, sym, ap, ap₂, _∙_, subst, subst⁻¹}
 use mathlib.Core.Bool.{Bool, true, false, cond}
-use mathlib.Core.List.{List, [], _∷_, _++_, map}
+use mathlib.Core.List.{List, [], _∷_, _++_}
 use mathlib.Core.Logic.{_⊎_, inl, inr}
 use Prim.Native.Nat.{ℕ, zero, suc, _+_, _*_, _^_, _-_, _≤_, _<_}
 use native.Mathlib.Nat.{mul-le-mul, pow-le-pow-right}
@@ -11,28 +11,27 @@ use lib.ListN.{length, take, replicate, length-map, length-append}
 use lib.Seq.{take-at, length-take-le}
 use borrow.Author.Tests.{leb-true, ltb-true, ltb-false}
 use Rattle.rule.specs.Func.{Fn}
-use Rattle.rule.specs.Number.{cubeNumber, wellFormed}
+use Rattle.rule.specs.Number.{cubeNumber}
 use Rattle.rule.specs.Nodes.{need}
 use Rattle.rule.specs.Refusal.{Condition, firstBroken, nodesLack, listLacks}
 use Rattle.rule.specs.Rule.{listOf, listNumbers}
 use Rattle.rule.proofs.Bools.{which}
 use Rattle.rule.proofs.Delivered.{AllFormed, list-formed}
-use Rattle.graph.specs.Entry.{tableConditions, inputConditions}
 use Rattle.graph.specs.Table.{tableOf, functions}
-use Rattle.graph.proofs.Refusals.{first-kept, others-kept, kept-before}
+use Rattle.graph.proofs.Refusals.{first-kept, others-kept}
+use Rattle.graph.proofs.Roots.{past-input}
 use Rattle.line.specs.Decimal.{decimal}
 use Rattle.line.proofs.Decimal.{length-one, length-two, length-three, length-four}
 use Rattle.list.specs.Entry.{lower, upper, theList, roomConditions, refusal, answerFor, changesNothing, roomLeft, Generates}
 use Rattle.list.specs.declared.entry.Generated.{Generated}
 use Rattle.list.specs.declared.entry.Generated.the-variants as made
 use Rattle.list.proofs.Writing.{list-bound}
-use Rattle.text.specs.Outcome.{outcome}
-use Rattle.text.specs.Writing.{listText, malformedFrom, writeConditions, roomBy, roomWritten, Wrote}
+use Rattle.text.specs.Writing.{listText, malformedFrom, roomBy, roomWritten, Wrote}
 use Rattle.text.specs.declared.writing.Written.{Written}
 use Rattle.text.specs.declared.writing.Written.the-variants as written
 use Rattle.text.proofs.Written.{length-text, all-kept, fitting}
 use Rattle.desk.specs.Said.{refusedText}
-use Rattle.desk.specs.Answer.{inputRefusal, answerBy, rowsList, listRefusal, listSaid, listAnswer, answerRoom}
+use Rattle.desk.specs.Answer.{answerBy, rowsList, listRefusal, listSaid, listAnswer, answerRoom}
 use Rattle.desk.specs.Judged.{Says}
 use Rattle.desk.specs.Contract.{Ready}
 use Rattle.desk.proofs.Reading.{ReadRows}
@@ -88,9 +87,9 @@ module _ {n c : ℕ} {v l h : List ℕ} {a b : ℕ} {list answer : List ℕ} (r 
 
   -- Refusals 1 to 6 do not apply.
   pub by-rooms : refused ≡ firstBroken (roomConditions n c v l h a b list)
-  unfolding refusal inputConditions tableConditions
+  unfolding refusal
   by-rooms =
-      kept-before (inputConditions n c v l h a b (length list)) (roomConditions n c v l h a b list) refl
+      past-input n c v l h a b (length list) (roomConditions n c v l h a b list)
       (input-kept r (length list) (omega (arith, r .cubes)))
 
   small : length xs ≤ 43046721

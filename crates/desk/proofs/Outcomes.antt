@@ -1,6 +1,6 @@
--- What the rows of any text keep: at least one column, no more rows than lines, and in a candidate as many signs in each row as
--- columns are asked for, so that its cubes are well formed; and the line of a fault is at most one past the last byte.
-use mathlib.Core.Path.{_≡_, refl, sym, ap, _∙_, subst}
+-- What a candidate keeps: as many signs in each row as columns are asked for, so that its cubes are well formed, and no more rows
+-- than bytes; and the line of any text's fault is at most one more than its bytes.
+use mathlib.Core.Path.{_≡_, refl, _∙_, subst}
 use mathlib.Core.Bool.{Bool, true, false, cond, not, _&&_, _||_}
 use mathlib.Core.List.{List, [], _∷_}
 use mathlib.Core.Logic.{_⊎_, inl, inr}
@@ -18,7 +18,7 @@ use Rattle.line.specs.Bytes.{isNewline, putByte, split, lines}
 use Rattle.line.specs.Meaning.{meaning, kindOf, rowOf}
 use Rattle.line.specs.declared.meaning.Line.{Line}
 use Rattle.line.specs.declared.meaning.Line.the-variants.{Empty, Columns, Output, Typed, Count, Row, End, Bad}
-use Rattle.text.specs.Outcome.{Outcome, good, fault, start, withColumns, withOutput, withKind, withCount, withRow, allowsColumns, allowsKind, allowsOut, first, legal, step, complete, finish, putRow, addRow, follow, run, outcome}
+use Rattle.text.specs.Outcome.{Outcome, good, fault, start, withColumns, withOutput, withKind, withCount, withRow, allowsColumns, allowsOut, first, legal, step, complete, finish, putRow, addRow, follow, run, outcome}
 use Rattle.text.specs.Candidate.{cubesOf, faultLine}
 use Rattle.text.specs.declared.judge.State.{State}
 use Rattle.text.specs.declared.judge.Step.{Step}
@@ -32,24 +32,23 @@ few-pieces true b ps = omega arith
 few-pieces false b [] = omega arith
 few-pieces false b (q ∷ ps) = omega arith
 
-pub few-lines : (text : List ℕ) → length (lines text) ≤ length text
+few-lines : (text : List ℕ) → length (lines text) ≤ length text
 unfolding lines split
 few-lines [] = omega arith
 few-lines (b ∷ t) = omega (arith, few-pieces (isNewline b) b (split isNewline t), few-lines t)
 
 -- Every row has some number of signs.
-unfoldable pub AllSized : ℕ → List Rows.Row → Type 0
+unfoldable AllSized : ℕ → List Rows.Row → Type 0
 AllSized m [] = Unit {0}
 AllSized m (r ∷ rs) = (length (r .cube) ≡ m) × AllSized m rs
 
--- A good text, where some number of columns is asked for and some lines are there.
-pub record Fine (asked : ℕ) (j : ℕ) (n : ℕ) (rs : List Rows.Row) : Type 0 where
-  pub some : 1 ≤ n
-  pub few : length rs ≤ j
-  pub sized : 0 < asked → AllSized asked rs
+-- The rows of a text, where some number of columns is asked for and some lines are there.
+record Fine (asked : ℕ) (j : ℕ) (rs : List Rows.Row) : Type 0 where
+  few : length rs ≤ j
+  sized : 0 < asked → AllSized asked rs
 
 abbrev FineIn : ℕ → ℕ → Outcome → Type 0
-FineIn asked j (good n t rs) = Fine asked j n rs
+FineIn asked j (good n t rs) = Fine asked j rs
 FineIn asked j (fault k) = Unit {0}
 
 -- The columns said so far are those asked for, and a row has as many signs.
@@ -104,25 +103,21 @@ leads asked s s′ End i e = let x : _≡_ {A = ℕ} 0 1 = cc in let y : ⊥ = o
 leads asked s s′ Bad i e = let x : _≡_ {A = ℕ} 0 1 = cc in let y : ⊥ = omega arith in absurd y
 
 fine-end : (asked j : ℕ) (s : State) (k : ℕ) → FineIn asked j (finish s k)
-unfolding finish complete AllSized
-fine-end asked j s k = go (complete s) refl
+unfolding finish AllSized
+fine-end asked j s k = go (complete s)
   where
-    go : (q : Bool) → complete s ≡ q → FineIn asked j (cond q (good (s .columns) (kindOf (s .kind)) []) (fault k))
-    go true c =
-        let given = and-left (not (eqb (s .columns) 0)) (s .output)
-        (and-left (not (eqb (s .columns) 0) && s .output) (not (s .counted) || eqb (s .count) (s .rows)) c) in
-        let z = eqb-false (s .columns) 0 (not-is-true (eqb (s .columns) 0) given) in
-        record { some = omega arith; few = omega arith; sized = λ h. tt }
-    go false c = tt
+    go : (q : Bool) → FineIn asked j (cond q (good (s .columns) (kindOf (s .kind)) []) (fault k))
+    go true = record { few = omega arith; sized = λ h. tt }
+    go false = tt
 
 fine-put : (asked j n x : ℕ) (o : _) (w : Outcome) → (0 < asked → n ≡ asked) → FineIn asked j w → FineIn asked (suc j) (putRow (rowOf n x o) w)
 unfolding putRow rowOf AllSized
 fine-put asked j n x o (good m t rs) h f =
-    record { some = f .some; few = omega (arith, f .few); sized = λ z. (length-signs n x ∙ h z, f .sized z) }
+    record { few = omega (arith, f .few); sized = λ z. (length-signs n x ∙ h z, f .sized z) }
 fine-put asked j n x o (fault k) h f = tt
 
 wider : (asked j : ℕ) (w : Outcome) → FineIn asked j w → FineIn asked (suc j) w
-wider asked j (good m t rs) f = record { some = f .some; few = omega (arith, f .few); sized = f .sized }
+wider asked j (good m t rs) f = record { few = omega (arith, f .few); sized = f .sized }
 wider asked j (fault k) f = tt
 
 fine-add : (asked j : ℕ) (l : Line) (w : Outcome) → RowAsked asked l → FineIn asked j w → FineIn asked (suc j) (addRow l w)
@@ -153,11 +148,6 @@ fine-run asked s k (l ∷ ls) i = go (step asked s (meaning l)) refl (λ s′. f
 fine-outcome : (asked : ℕ) (text : List ℕ) → FineIn asked (length (lines text)) (outcome asked text)
 unfolding outcome start
 fine-outcome asked text = fine-run asked start 1 (lines text) (λ h. inl refl)
-
--- The theorems.
-pub good-fine : (asked : ℕ) (text : List ℕ) (n : ℕ) (t : Rows.Kind) (rs : List Rows.Row) → outcome asked text ≡ good n t rs
-    → Fine asked (length (lines text)) n rs
-good-fine asked text n t rs e = subst (FineIn asked (length (lines text))) e (fine-outcome asked text)
 
 -- A candidate's cubes are well formed, and no more than its bytes.
 rows-formed : (m : ℕ) → m ≤ 16 → (rs : List Rows.Row) → AllSized m rs → AllFormed m (cubesOf (good m Rows.fd rs))

@@ -1,21 +1,20 @@
 -- A function that was read is fit for the generator and the checker: what they ask of the input is kept.
-use mathlib.Core.Path.{_≡_, refl, ap₂, _∙_}
-use mathlib.Core.Bool.{true, not, _&&_, _||_}
-use mathlib.Core.List.{List, [], _∷_, _++_}
+use mathlib.Core.Path.{_≡_, ap₂, _∙_}
+use mathlib.Core.Bool.{true, not, _&&_}
+use mathlib.Core.List.{List}
 use mathlib.Core.Logic.{_⊎_, inl, inr}
 use Prim.Native.Nat.{ℕ, _+_, _-_, _≤_, _<_}
 use native.Mathlib.Omega.{arith}
-use lib.Dec.{leb, ltb}
+use lib.Dec.{ltb}
 use lib.ListN.{length}
 use borrow.Author.Tests.{le-leb, lt-leb, lt-ltb, ltb-true}
 use Rattle.rule.specs.Func.{within}
-use Rattle.rule.specs.Refusal.{Condition, firstBroken, outOfRange, notWithin, listOver}
+use Rattle.rule.specs.Refusal.{firstBroken}
 use Rattle.rule.proofs.Bools.{and-left, or-true}
-use Rattle.graph.specs.Entry.{tableConditions, inRange}
-use Rattle.graph.specs.Table.{Table, tableOf, fnOf, refers}
+use Rattle.graph.specs.Entry.{inputConditions, inRange}
+use Rattle.graph.specs.Table.{Table, tableOf, refers}
 use Rattle.graph.proofs.Entries.{both-in}
-use Rattle.graph.proofs.Refusals.{kept-next, none-broken, kept-before, sound-unbroken}
-use Rattle.text.specs.Room.{padded}
+use Rattle.graph.proofs.Roots.{good-input}
 use Rattle.desk.specs.Answer.{answerRoom, Answers}
 use Rattle.desk.specs.Judged.{Says}
 use Rattle.desk.specs.Contract.{Ready}
@@ -45,23 +44,11 @@ ready-of {n = n} r e f =
     }
 
 -- Refusals 1 to 6 do not apply to a list or a list room of at most 16,384 cubes.
-module _ {n c : ℕ} {v l h : List ℕ} {a b : ℕ} {list answer : List ℕ} (r : Ready n c v l h a b list answer) (size : ℕ) (few : size ≤ 16384) where
-  abbrev rangeKept : Condition
-  rangeKept = record { number = outOfRange; kept = inRange c a && inRange c b }
-
-  abbrev insideKept : Condition
-  insideKept = record { number = notWithin; kept = within n (fnOf (tableOf v l h) 0 n a) (fnOf (tableOf v l h) 0 n b) }
-
-  abbrev sizeKept : Condition
-  sizeKept = record { number = listOver; kept = leb size 16384 }
-
-  pub input-kept : firstBroken (tableConditions n c v l h ++ (rangeKept ∷ insideKept ∷ sizeKept ∷ [])) ≡ 0
-  unfolding tableConditions
-  input-kept =
-      kept-before (tableConditions n c v l h) (rangeKept ∷ insideKept ∷ sizeKept ∷ []) refl (sound-unbroken n c v l h (r .roots .sound)) ∙
-      kept-next rangeKept (insideKept ∷ sizeKept ∷ [])
-      (both-in c a b (in-range (tableOf v l h) c a (r .roots .first)) (in-range (tableOf v l h) c b (r .roots .second))) ∙
-      kept-next insideKept (sizeKept ∷ []) (r .inside) ∙ kept-next sizeKept [] (le-leb size 16384 few) ∙ none-broken
+pub input-kept : {n c : ℕ} {v l h : List ℕ} {a b : ℕ} {list answer : List ℕ} → Ready n c v l h a b list answer → (size : ℕ) → size ≤ 16384
+    → firstBroken (inputConditions n c v l h a b size) ≡ 0
+input-kept {n} {c} {v} {l} {h} {a} {b} r size few =
+    good-input n c v l h a b size (r .roots .sound)
+    (both-in c a b (in-range (tableOf v l h) c a (r .roots .first)) (in-range (tableOf v l h) c b (r .roots .second))) (r .inside) few
 
 -- A room that not every answer fits, and one that every answer does.
 pub short-room : (w room : List ℕ) → length room < answerRoom → Answers w room room 0

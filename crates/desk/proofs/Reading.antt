@@ -1,6 +1,6 @@
 -- What reading leaves of a function text in the programs' table: its refusal, or its rows with L within U.
 use mathlib.Core.Path.{_≡_, refl, sym, ap, ap₂, _∙_, subst, subst⁻¹}
-use mathlib.Core.Bool.{Bool, true, false, cond, not, _&&_, _||_}
+use mathlib.Core.Bool.{Bool, true, false, cond, not, _&&_}
 use mathlib.Core.List.{List, [], _∷_}
 use mathlib.Core.Logic.{_⊎_, inl, inr}
 use Prim.Native.Nat.{ℕ, zero, suc, _+_, _≤_}
@@ -11,7 +11,7 @@ use borrow.Author.Tests.{leb-true}
 use Rattle.rule.specs.Func.{within}
 use Rattle.rule.specs.Nodes.{addAll}
 use Rattle.rule.specs.Refusal.{Condition, firstBroken, textOver, tableOver, textFault, nodesLack, onAndOff}
-use Rattle.rule.specs.Rows.{Kind, Row, lowerOf, upperOf, contradicts, readingNames}
+use Rattle.rule.specs.Rows.{Kind, Row, lowerOf, upperOf, readingNames}
 use Rattle.rule.proofs.Bools.{clash, not-is-true, which}
 use Rattle.rule.proofs.Rows.{good-rows-within}
 use Rattle.graph.specs.Run.{Names}
@@ -20,12 +20,14 @@ use Rattle.graph.specs.Table.{tableOf, functions}
 use Rattle.graph.proofs.Refusals.{broken-here, first-kept, others-kept}
 use Rattle.text.specs.Outcome.{Outcome, good, fault, outcome}
 use Rattle.text.specs.Candidate.{isGood, faultLine}
-use Rattle.text.specs.Function.{needOf, contradictory, functionConditions, functionRefusal, functionReturns, HasRead, ReadsFunction}
+use Rattle.text.specs.Function.{needOf, contradictory, functionConditions, functionRefusal, functionReturns, ReadsFunction}
 use Rattle.text.specs.declared.function.Function.{Function}
 use Rattle.text.specs.declared.function.Function.the-variants.{Done, Refused}
+use Rattle.text.specs.Judged.{kindFor, judgedPlus, judged}
+use Rattle.text.proofs.Reading.{judged-good}
 use Rattle.desk.specs.Said.{refusedText}
 use Rattle.desk.specs.Answer.{column, inputRefusal, answerBy}
-use Rattle.desk.proofs.Outcomes.{good-fine, early-fault}
+use Rattle.desk.proofs.Outcomes.{early-fault}
 
 -- The conditions of reading speak of the slices' lengths alone.
 module _ (text : List ℕ) (a b d : ℕ) where
@@ -96,6 +98,12 @@ kept-input input z = all-kept input (length column) (length column) (length colu
 
 pub kept-good : (input : List ℕ) → inputRefusal input ≡ 0 → isGood (outcome 0 input) ≡ true
 kept-good input z = kept-input input z .isgood
+
+-- A function text has 1 to 16 columns.
+pub good-columns : (input : List ℕ) (n : ℕ) (t : Kind) (rows : List Row) → outcome 0 input ≡ good n t rows → (1 ≤ n) × (n ≤ 16)
+unfolding judged judgedPlus
+good-columns input n t rows e =
+    let g = judged-good input n (kindFor t) (0 + length rows) (sym (ap judged e)) in (g .some, g .few)
 
 -- A function text that was read: its rows, what stands in the table, and L within U.
 pub record ReadRows (input : List ℕ) (v : List ℕ) (l : List ℕ) (h : List ℕ) (n : ℕ) (c : ℕ) (a : ℕ) (b : ℕ) : Type 0 where
@@ -191,7 +199,7 @@ module _ {input v l h v′ l′ h′ : List ℕ} {a : Function} (p : ReadsFuncti
               kept = none;
               told = told;
               short = kept-input input none .short;
-              some = good-fine 0 input n t rows told .some;
+              some = good-columns input n t rows told .0;
               level = j .length-kept ∙ ev;
               sound = subst (λ i. Sound n i v′ l′ h′) ec (j .sound);
               on = subst (λ i. Names v′ l′ h′ c 0 n (lowerOf n t rows) i) ex (subst (λ i. Names v′ l′ h′ i 0 n (lowerOf n t rows) (j .lower)) ec (j .on));

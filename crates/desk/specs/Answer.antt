@@ -5,9 +5,8 @@ use mathlib.Core.List.{List, [], _∷_}
 use Prim.Native.Nat.{ℕ, zero, suc}
 use lib.Dec.{eqb, leb}
 use lib.ListN.{length, replicate}
-use Rattle.rule.specs.Func.{Fn}
 use Rattle.rule.specs.Nodes.{addAll, need}
-use Rattle.rule.specs.Refusal.{Condition, firstBroken, nodesLack, listLacks}
+use Rattle.rule.specs.Refusal.{firstBroken, nodesLack, listLacks}
 use Rattle.rule.specs.Rows.{Kind, Row, lowerOf, upperOf, readingNames}
 use Rattle.rule.specs.Rule.{listNumbers}
 use Rattle.rule.specs.Verdict.{verdictNumbers}

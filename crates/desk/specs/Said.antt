@@ -1,6 +1,5 @@
 -- The one-line answers: a refusal and a verdict. Numbers are decimal, cubes and columns count from 1, a point is its columns'
 -- digits.
-use mathlib.Core.Bool.{Bool, cond}
 use mathlib.Core.List.{List, [], _∷_, map}
 use Prim.Native.Nat.{ℕ, _+_}
 use Rattle.rule.specs.Point.{digits, bit}

@@ -1,9 +1,9 @@
 // The one-line answers: a refusal and a verdict. Every line fits 32 bytes.
-ghost use mathlib.Core.Path.{_≡_};
 ghost use mathlib.Core.List.{List, [], _∷_, _++_};
 ghost use Prim.Native.Nat.{ℕ, _+_, _≤_, _<_};
 ghost use lib.ListN.{length};
-ghost use Rattle.rule.specs.Verdict.{accept, off, missing, literal, cube};
+ghost use Rattle.rule.specs.Verdict.{off, missing};
+ghost use Rattle.rule.specs.Verdict.{cube as Verdict·cube};
 ghost use Rattle.line.specs.Bytes.{bytes};
 ghost use Rattle.text.specs.Room.{Put};
 ghost use Rattle.text.specs.Writing.{joined};
@@ -65,6 +65,7 @@ fn say_numbers(room: &mut [u8], word: &[u8], a: u32, b: u32) -> usize
     end_line(room, end_at)
 }
 
+// A cube that covers an off point, and the point.
 fn say_off(room: &mut [u8], columns: u16, cube: u32, point: u32) -> usize
     requires { ⌜ (columns ≤ 16) × (32 ≤ length (now room)) ⌝ }
     ensures { λ r. ⌜ Says (verdictText columns (off cube point)) (now (room .entry)) (now (room .exit)) r ⌝ }
@@ -76,6 +77,7 @@ fn say_off(room: &mut [u8], columns: u16, cube: u32, point: u32) -> usize
     end_line(room, end_at)
 }
 
+// An on point that is not covered.
 fn say_missing(room: &mut [u8], columns: u16, point: u32) -> usize
     requires { ⌜ (columns ≤ 16) × (32 ≤ length (now room)) ⌝ }
     ensures { λ r. ⌜ Says (verdictText columns (missing point)) (now (room .entry)) (now (room .exit)) r ⌝ }
@@ -85,9 +87,10 @@ fn say_missing(room: &mut [u8], columns: u16, point: u32) -> usize
     end_line(room, end_at)
 }
 
+// A cube that can go.
 fn say_cube(room: &mut [u8], columns: u16, cube: u32) -> usize
     requires { ⌜ 32 ≤ length (now room) ⌝ }
-    ensures { λ r. ⌜ Says (verdictText columns (Rattle.rule.specs.Verdict.cube cube)) (now (room .entry)) (now (room .exit)) r ⌝ }
+    ensures { λ r. ⌜ Says (verdictText columns (Verdict·cube cube)) (now (room .entry)) (now (room .exit)) r ⌝ }
 {
     let cube_at = writing::put_bytes(room, 0, b"cube ");
     let end_at = put_numeral(room, cube_at, cube);

@@ -1,8 +1,7 @@
 -- `desk::checks::say_verdict` meets its contract: what `read_candidate` refuses is said, and on what it reads the verdict, which nothing
 -- refuses.
-use mathlib.Core.Path.{ap, _∙_}
+use mathlib.Core.Path.{_∙_}
 use native.Mathlib.Omega.{arith}
-use Rattle.desk.specs.Judged.{judgedText}
 use Rattle.desk.proofs.Saying.{said-as}
 use Rattle.desk.proofs.Checked.{text-short, same-rest, candidate-refused, value-small, stands-inside, stands-long, candidate-judged}
 use borrow.Author.Needs.{needs}

@@ -1,7 +1,7 @@
 -- `desk::said::put_numeral` meets its contract: a number's digits are its tenth's and its last one. The measure is the number.
 use mathlib.Core.Path.{_∙_}
 use native.Mathlib.Omega.{arith}
-use lib.ListN.{length, length-set}
+use lib.ListN.{length-set}
 use Rattle.text.proofs.Room.{put-kept}
 use Rattle.desk.proofs.Saying.{one-digit, digit-more, put-one, put-last}
 use Prim.Native.Nat.{ℕ, _<_}

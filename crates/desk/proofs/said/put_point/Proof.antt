@@ -1,7 +1,7 @@
 -- `desk::said::put_point` meets its contract. The loop's invariant: storing the digits of the columns left gives the room of the
 -- entry with all of them. The measure is the columns left.
 use mathlib.Core.Path.{_≡_, refl, sym, _∙_}
-use Prim.Native.Nat.{_≤_, _+_, _-_}
+use Prim.Native.Nat.{_+_, _-_}
 use native.Mathlib.Omega.{arith}
 use lib.ListN.{length, length-set}
 use lib.Seq.{sets}
