@@ -13,7 +13,6 @@ pub mod check;
 pub mod damage;
 pub mod functions;
 pub mod generation;
-pub mod library;
 pub mod lists;
 pub mod random;
 pub mod reader;
@@ -21,3 +20,5 @@ pub mod tables;
 pub mod tally;
 pub mod text_entry;
 pub mod texts;
+
+pub use dowrhesk::numbers as library;

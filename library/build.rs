@@ -1,5 +1,5 @@
 //! Links the static library of the proved code. It stops where the archive is missing, or older
-//! than a source file of a crate: a stale archive would be compared in silence.
+//! than a source file of a crate: a stale archive would answer in silence.
 
 use std::fs;
 use std::path::{Path, PathBuf};
@@ -7,7 +7,7 @@ use std::process::exit;
 use std::time::SystemTime;
 
 fn main() {
-    let top = Path::new(env!("CARGO_MANIFEST_DIR")).join("../..");
+    let top = Path::new(env!("CARGO_MANIFEST_DIR")).join("..");
     let folder = top.join("target/staticlib");
     let archive = folder.join("libcapi.a");
     let crates = top.join("crates");

@@ -1,144 +1,12 @@
-//! The functions of the static library, and a safe function over each. A slice is passed as a
-//! pointer and a length; what a function answers besides its status, it writes into an array.
+//! Each exported function on slices and numbers, safe to call: its answer is the status, document
+//! 01's number of the refusal or 0, and the other numbers as they were told. Rooms and tables are the
+//! caller's, and are left as document 01 says.
 
-/// A function that builds from two roots.
-type OfTwoRoots = unsafe extern "C" fn(
-    columns: u16,
-    level: *mut u16,
-    levels: usize,
-    low: *mut u16,
-    lows: usize,
-    high: *mut u16,
-    highs: usize,
-    count: usize,
-    a: u16,
-    b: u16,
-    out: *mut [u64; 2],
-) -> u16;
-
-extern "C" {
-    fn dowrhesk_and(
-        columns: u16,
-        level: *mut u16,
-        levels: usize,
-        low: *mut u16,
-        lows: usize,
-        high: *mut u16,
-        highs: usize,
-        count: usize,
-        a: u16,
-        b: u16,
-        out: *mut [u64; 2],
-    ) -> u16;
-    fn dowrhesk_or(
-        columns: u16,
-        level: *mut u16,
-        levels: usize,
-        low: *mut u16,
-        lows: usize,
-        high: *mut u16,
-        highs: usize,
-        count: usize,
-        a: u16,
-        b: u16,
-        out: *mut [u64; 2],
-    ) -> u16;
-    fn dowrhesk_difference(
-        columns: u16,
-        level: *mut u16,
-        levels: usize,
-        low: *mut u16,
-        lows: usize,
-        high: *mut u16,
-        highs: usize,
-        count: usize,
-        a: u16,
-        b: u16,
-        out: *mut [u64; 2],
-    ) -> u16;
-    fn dowrhesk_variable(
-        columns: u16,
-        level: *mut u16,
-        levels: usize,
-        low: *mut u16,
-        lows: usize,
-        high: *mut u16,
-        highs: usize,
-        count: usize,
-        column: u16,
-        out: *mut [u64; 2],
-    ) -> u16;
-    fn dowrhesk_value(
-        columns: u16,
-        level: *const u16,
-        levels: usize,
-        low: *const u16,
-        lows: usize,
-        high: *const u16,
-        highs: usize,
-        count: usize,
-        root: u16,
-        point: u32,
-        out: *mut [u64; 1],
-    ) -> u16;
-    fn dowrhesk_generate(
-        columns: u16,
-        level: *mut u16,
-        levels: usize,
-        low: *mut u16,
-        lows: usize,
-        high: *mut u16,
-        highs: usize,
-        count: usize,
-        lower: u16,
-        upper: u16,
-        room: *mut u32,
-        cubes: usize,
-        out: *mut [u64; 2],
-    ) -> u16;
-    fn dowrhesk_check(
-        columns: u16,
-        level: *const u16,
-        levels: usize,
-        low: *const u16,
-        lows: usize,
-        high: *const u16,
-        highs: usize,
-        count: usize,
-        lower: u16,
-        upper: u16,
-        list: *const u32,
-        cubes: usize,
-        out: *mut [u64; 3],
-    ) -> u16;
-    fn dowrhesk_read_candidate(
-        columns: u16,
-        text: *const u8,
-        bytes: usize,
-        room: *mut u32,
-        cubes: usize,
-        out: *mut [u64; 2],
-    ) -> u16;
-    fn dowrhesk_read_function(
-        text: *const u8,
-        bytes: usize,
-        level: *mut u16,
-        levels: usize,
-        low: *mut u16,
-        lows: usize,
-        high: *mut u16,
-        highs: usize,
-        out: *mut [u64; 5],
-    ) -> u16;
-    fn dowrhesk_write_list(
-        columns: u16,
-        list: *const u32,
-        cubes: usize,
-        room: *mut u8,
-        bytes: usize,
-        out: *mut [u64; 2],
-    ) -> u16;
-}
+use crate::exports::{
+    dowrhesk_and, dowrhesk_check, dowrhesk_check_answer, dowrhesk_difference, dowrhesk_generate,
+    dowrhesk_list_answer, dowrhesk_or, dowrhesk_read_candidate, dowrhesk_read_function,
+    dowrhesk_value, dowrhesk_variable, dowrhesk_write_list, OfTwoRoots,
+};
 
 /// What the arrays hold before a call, so that an answer that was not written is noticed.
 const UNWRITTEN: u64 = u64::MAX;
@@ -176,8 +44,8 @@ pub struct Checked {
     pub values: [u64; 2],
 }
 
-/// The answer of a function text's reading: what a refusal returns; and the columns, the count of
-/// records and both roots.
+/// The answer of a function text's reading: what a refusal returns, and the columns, the count of
+/// records, L and U.
 #[derive(Clone, Copy, PartialEq, Eq, Debug)]
 pub struct FunctionRead {
     pub status: u16,
@@ -188,6 +56,7 @@ pub struct FunctionRead {
     pub upper: u64,
 }
 
+/// The function that is 1 where both roots are.
 pub fn and(
     columns: u16,
     level: &mut [u16],
@@ -200,6 +69,7 @@ pub fn and(
     of_two_roots(dowrhesk_and, columns, level, low, high, count, a, b)
 }
 
+/// The function that is 1 where either root is.
 pub fn or(
     columns: u16,
     level: &mut [u16],
@@ -212,6 +82,7 @@ pub fn or(
     of_two_roots(dowrhesk_or, columns, level, low, high, count, a, b)
 }
 
+/// The function that is 1 where the first root is and the second is not.
 pub fn difference(
     columns: u16,
     level: &mut [u16],
@@ -256,6 +127,7 @@ fn of_two_roots(
     built(status, out)
 }
 
+/// The function that is 1 where a column is 1.
 pub fn variable(
     columns: u16,
     level: &mut [u16],
@@ -291,6 +163,7 @@ fn built(status: u16, [root, count]: [u64; 2]) -> Built {
     }
 }
 
+/// The value of a root at a point.
 pub fn value(
     columns: u16,
     level: &[u16],
@@ -321,6 +194,7 @@ pub fn value(
     Valued { status, value }
 }
 
+/// The list of the rule for a lower and an upper root.
 #[allow(clippy::too_many_arguments)]
 pub fn generate(
     columns: u16,
@@ -362,6 +236,7 @@ fn delivered(status: u16, [returned, length]: [u64; 2]) -> Delivered {
     }
 }
 
+/// The verdict on any list for a lower and an upper root.
 #[allow(clippy::too_many_arguments)]
 pub fn check(
     columns: u16,
@@ -400,6 +275,7 @@ pub fn check(
     }
 }
 
+/// Reads the list of a candidate text for a function of so many columns.
 pub fn read_candidate(columns: u16, text: &[u8], room: &mut [u32]) -> Delivered {
     let mut out = [UNWRITTEN; 2];
     let (bytes, cubes) = (text.len(), room.len());
@@ -411,6 +287,19 @@ pub fn read_candidate(columns: u16, text: &[u8], room: &mut [u32]) -> Delivered 
     delivered(status, out)
 }
 
+/// Writes the text of a list of cubes.
+pub fn write_list(columns: u16, list: &[u32], room: &mut [u8]) -> Delivered {
+    let mut out = [UNWRITTEN; 2];
+    let (cubes, bytes) = (list.len(), room.len());
+    // Safety: as in `of_two_roots`; the list is only read.
+    let status = unsafe {
+        let (list, room) = (list.as_ptr(), room.as_mut_ptr());
+        dowrhesk_write_list(columns, list, cubes, room, bytes, &mut out)
+    };
+    delivered(status, out)
+}
+
+/// Reads a function text into a table, which is cleared first.
 pub fn read_function(
     text: &[u8],
     level: &mut [u16],
@@ -443,13 +332,17 @@ pub fn read_function(
     }
 }
 
-pub fn write_list(columns: u16, list: &[u32], room: &mut [u8]) -> Delivered {
-    let mut out = [UNWRITTEN; 2];
-    let (cubes, bytes) = (list.len(), room.len());
-    // Safety: as in `of_two_roots`; the list is only read.
-    let status = unsafe {
-        let (list, room) = (list.as_ptr(), room.as_mut_ptr());
-        dowrhesk_write_list(columns, list, cubes, room, bytes, &mut out)
-    };
-    delivered(status, out)
+/// The first program's answer to an input: how many bytes of it stand in the room, or 0 where not
+/// every answer would fit.
+pub fn list_answer(input: &[u8], answer: &mut [u8]) -> usize {
+    let (bytes, room) = (input.len(), answer.len());
+    // Safety: as in `of_two_roots`; the input is only read.
+    unsafe { dowrhesk_list_answer(input.as_ptr(), bytes, answer.as_mut_ptr(), room) }
+}
+
+/// The second program's answer to an input, likewise.
+pub fn check_answer(input: &[u8], answer: &mut [u8]) -> usize {
+    let (bytes, room) = (input.len(), answer.len());
+    // Safety: as in `of_two_roots`; the input is only read.
+    unsafe { dowrhesk_check_answer(input.as_ptr(), bytes, answer.as_mut_ptr(), room) }
 }
