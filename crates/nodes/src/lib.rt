@@ -1,0 +1,2 @@
+// A node table as a lent row of records: the same promises as the entries on three slices, said of the row.
+pub mod row;
