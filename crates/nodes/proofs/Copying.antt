@@ -1,11 +1,11 @@
 -- Copying a row over another record by record, from the first on, as many as both have, gives the one over the other.
-use mathlib.Core.Path.{_≡_, refl, sym, ap, _∙_}
-use mathlib.Core.List.{List, [], _∷_, _++_}
+use mathlib.Core.Path.{_≡_, refl, sym, ap, ap₂, _∙_}
+use mathlib.Core.List.{List, [], _∷_, _++_, append-nil}
 use Prim.Native.Nat.{ℕ, zero, suc, _+_, _≤_, _<_, min}
-use native.Mathlib.Nat.{le-of-suc-le-suc, not-suc-le-zero, zero-min, min-zero, suc-min-suc, min-le-left, min-le-right}
+use native.Mathlib.Nat.{le-of-suc-le-suc, not-suc-le-zero, zero-min, min-zero, suc-min-suc, min-le-left, min-le-right, le-of-eq}
 use native.Mathlib.Omega.{arith}
-use lib.ListN.{length, take, drop, set, getD, length-set}
-use lib.Seq.{take-nil}
+use lib.ListN.{length, take, drop, set, getD, length-set, drop-of-length-le}
+use lib.Seq.{take-nil, take-all, take-append-seam, drop-nil}
 use Rattle.nodes.specs.Row.{over}
 
 -- The second row after the first n records of the first were copied to it.
@@ -53,3 +53,25 @@ whole {X} (x ∷ xs) (y ∷ ys) = ap (λ (k : ℕ). take k (x ∷ xs) ++ drop k 
 
 pub copied-over : {X : Type 0} (d : X) (xs ys : List X) → copied d xs ys (min (length xs) (length ys)) ≡ over xs ys
 copied-over d xs ys = copied-is d xs ys (min (length xs) (length ys)) (min-le-left (length xs) (length ys)) (min-le-right (length xs) (length ys)) ∙ whole xs ys
+
+-- Every record of a row over one of the same length.
+pub copied-all : {X : Type 0} (d : X) (xs ys : List X) (n : ℕ) → length xs ≡ n → length ys ≡ n → copied d xs ys n ≡ xs
+copied-all {X} d xs ys n e k =
+    copied-is d xs ys n (le-of-eq (sym e)) (le-of-eq (sym k)) ∙ ap₂ (λ (us : List X) (vs : List X). us ++ vs) (take-all n xs (le-of-eq e)) (drop-of-length-le ys (le-of-eq k)) ∙ append-nil xs
+
+-- The first records of a row copied over a longer one are the row.
+pub over-front : {X : Type 0} (xs ys : List X) → length xs ≤ length ys → take (length xs) (over xs ys) ≡ xs
+unfolding over
+over-front {X} xs ys l = ap (λ (us : List X). take (length xs) (us ++ drop (length xs) ys)) (take-all (length ys) xs l) ∙ take-append-seam xs (drop (length xs) ys)
+
+-- A row over one that is no longer is its first records.
+pub over-short : {X : Type 0} (ts xs : List X) → length xs ≤ length ts → over ts xs ≡ take (length xs) ts
+unfolding over
+over-short {X} ts xs l = ap (λ (us : List X). take (length xs) ts ++ us) (drop-of-length-le xs l) ∙ append-nil (take (length xs) ts)
+
+-- Copying out and back changes nothing, at any length.
+pub over-back : {X : Type 0} (xs zs : List X) → over (over xs zs) xs ≡ xs
+unfolding over
+over-back [] zs = drop-nil (length (take (length zs) [] ++ zs))
+over-back (x ∷ xs) [] = refl
+over-back (x ∷ xs) (z ∷ zs) = ap {B = List _} (λ r. x ∷ r) (over-back xs zs)

@@ -1,3 +1,8 @@
 -- The laws of rows of records, and what the walks over them share.
 pub mod Copying
 pub mod Records
+pub mod Fields
+pub mod Refusals
+pub mod Rows
+pub mod Operations
+pub mod Lending

@@ -1,7 +1,7 @@
 -- A row of node records: its three lists, and one row copied over another.
 use mathlib.Core.List.{List, map, _++_}
-use Prim.Native.Nat.{ℕ}
-use lib.ListN.{length, take, drop}
+use Prim.Native.Nat.{ℕ, _-_}
+use lib.ListN.{length, take, drop, replicate}
 use Rattle.nodes.specs.declared.row.Node.{Node}
 
 -- The levels, the lows and the highs of a row's records.
@@ -21,3 +21,7 @@ zeroNode = record { level = 0; low = 0; high = 0 }
 -- The second row, its first records those of the first row, as many as both have.
 unfoldable pub over : {X : Type 0} → List X → List X → List X
 over xs ys = take (length ys) xs ++ drop (length xs) ys
+
+-- A row whose records from place c on are zero.
+unfoldable pub clearedRow : ℕ → List Node → List Node
+clearedRow c xs = take c xs ++ replicate (length xs - c) zeroNode

@@ -1,2 +1,4 @@
 // A node table as a lent row of records: the same promises as the entries on three slices, said of the row.
+pub mod apart;
+pub mod operation;
 pub mod row;

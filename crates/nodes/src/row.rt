@@ -12,7 +12,7 @@ pub struct Node {
 }
 
 // An array of records that are zero.
-fn zeros() -> [Node; 4096]
+pub fn zeros() -> [Node; 4096]
     ensures { λ r. ⌜ r ≡ replicate 4096 zeroNode ⌝ }
 {
     [Node { level: 0, low: 0, high: 0 }; 4096]
