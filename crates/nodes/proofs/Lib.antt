@@ -4,5 +4,8 @@ pub mod Records
 pub mod Fields
 pub mod Refusals
 pub mod Rows
+pub mod Parts
 pub mod Operations
+pub mod Values
+pub mod Verdicts
 pub mod Lending

@@ -8,18 +8,18 @@ use Prim.Native.Nat.{ℕ, suc, _≤_, _<_}
 use native.Mathlib.Omega.{arith}
 use lib.Dec.{eqb, leb}
 use borrow.Author.Tests.{leb-true, leb-false}
-use lib.ListN.{length, take, drop, replicate, length-replicate}
-use lib.Seq.{length-take-le, take-at}
+use lib.ListN.{length, take, drop, replicate}
 use Rattle.rule.specs.Refusal.{firstBroken, nodesLack}
 use Rattle.graph.specs.Entry.{Operated, Refusing, buildConditions, leftBy, cleared, numbersOf}
 use Rattle.graph.specs.declared.entry.Answer.{Answer}
 use Rattle.graph.specs.declared.entry.Answer.the-variants.{Refused}
-use Rattle.nodes.specs.Row.{levels, lows, highs, clearedRow, zeroNode, over}
-use Rattle.nodes.specs.Operation.{rangedFor, resultFor, conditions, leftRow, Operates, OperatesOn, overRefusal}
+use Rattle.nodes.specs.Row.{levels, lows, highs, clearedRow, zeroNode, over, overRefusal}
+use Rattle.nodes.specs.Operation.{rangedFor, resultFor, conditions, leftRow, Operates, OperatesOn}
 use Rattle.nodes.specs.declared.row.Node.{Node}
 use Rattle.nodes.specs.declared.operation.Operation.{Operation}
 use Rattle.nodes.specs.declared.operation.Outcome.{Outcome}
-use Rattle.nodes.proofs.Copying.{over-front, over-short, over-back}
+use Rattle.nodes.proofs.Copying.{over-short, over-back}
+use Rattle.nodes.proofs.Parts.{part-back, loaded-front}
 use Rattle.nodes.proofs.Refusals.{over-refused, over-number}
 use Rattle.nodes.proofs.Rows.{same-row, levels-take, lows-take, highs-take, levels-cleared, lows-cleared, highs-cleared}
 
@@ -43,14 +43,6 @@ of-lists op n c xs ys a o = record {
     same-row ys (cond (eqb (suc r) nodesLack) (clearedRow c xs) xs) (left .level ∙ sym (left-field levels c xs (levels-cleared c xs) (eqb (suc r) nodesLack)))
     (left .low ∙ sym (left-field lows c xs (lows-cleared c xs) (eqb (suc r) nodesLack))) (left .high ∙ sym (left-field highs c xs (highs-cleared c xs) (eqb (suc r) nodesLack)));
 }
-
--- The part of an array that is lent has the row's length.
-pub part-long : (us : List ℕ) (size : ℕ) → length us ≡ 4096 → size ≤ 4096 → size ≡ length (take size us)
-part-long us size e l = sym (length-take-le size us (subst⁻¹ (λ (m : ℕ). size ≤ m) e l))
-
--- A field of the array after the part has come back.
-part-back : (us vs : List ℕ) (size : ℕ) → length us ≡ 4096 → size ≤ 4096 → length vs ≡ length (take size us) → take size (vs ++ drop size us) ≡ vs
-part-back us vs size e l k = take-at vs (drop size us) size (k ∙ sym (part-long us size e l))
 
 -- The three lists before and after.
 abbrev Lists : Type 0
@@ -112,15 +104,11 @@ over-operates op n c xs l = of-lists op n c xs xs (Refused (overRefusal n) c) re
 pub loaded-saved : (op : Operation) (n c : ℕ) (xs ts zs : List Node) (r : Outcome) → ts ≡ over xs (replicate 4096 zeroNode) → length (r .table) ≡ 4096 → OperatesOn op n c (length xs) ts r → zs ≡ over (r .table) xs → Operates op n c xs zs (r .answer)
 loaded-saved op n c xs ts zs r et l on ez = go (leb (length xs) 4096) refl
   where
-    zeros-long : length (replicate 4096 zeroNode) ≡ 4096
-    zeros-long = length-replicate 4096 zeroNode
-
     go : (b : Bool) → leb (length xs) 4096 ≡ b → Operates op n c xs zs (r .answer)
     go true e =
         let m = leb-true (length xs) 4096 e in
-        let front : take (length xs) ts ≡ xs = ap (take (length xs)) et ∙ over-front xs (replicate 4096 zeroNode) (subst⁻¹ (λ (k : ℕ). length xs ≤ k) zeros-long m) in
         let back : zs ≡ take (length xs) (r .table) = ez ∙ over-short (r .table) xs (subst⁻¹ (λ (k : ℕ). length xs ≤ k) l m) in
-        subst (λ (us : List Node). Operates op n c us zs (r .answer)) front (subst⁻¹ (λ (us : List Node). Operates op n c (take (length xs) ts) us (r .answer)) back (on .within m))
+        subst (λ (us : List Node). Operates op n c us zs (r .answer)) (loaded-front xs ts et m) (subst⁻¹ (λ (us : List Node). Operates op n c (take (length xs) ts) us (r .answer)) back (on .within m))
     go false e =
         let m = leb-false (length xs) 4096 e in
         let same : zs ≡ xs = ez ∙ ap (λ (us : List Node). over us xs) (on .beyond m .0 ∙ et) ∙ over-back xs (replicate 4096 zeroNode) in

@@ -9,8 +9,7 @@ use lib.ListN.{length, length-map}
 use borrow.Author.Tests.{lt-leb, eq-eqb}
 use Rattle.rule.specs.Refusal.{Condition, firstBroken}
 use Rattle.graph.specs.Entry.{tableConditions}
-use Rattle.nodes.specs.Row.{levels, lows, highs}
-use Rattle.nodes.specs.Operation.{overRefusal}
+use Rattle.nodes.specs.Row.{levels, lows, highs, overRefusal}
 use Rattle.nodes.specs.declared.row.Node.{Node}
 
 pub over-columns : (n : ℕ) → leb n 16 ≡ false → overRefusal n ≡ 1

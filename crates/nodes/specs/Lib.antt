@@ -1,2 +1,4 @@
 pub mod Row
 pub mod Operation
+pub mod Value
+pub mod Verdict

@@ -1,17 +1,17 @@
 -- The building operations on a row of records: the promises of the three slices, said of the row.
 use mathlib.Core.Path.{_≡_}
-use mathlib.Core.Bool.{Bool, false, cond, _&&_}
-use mathlib.Core.List.{List, [], _∷_, _++_}
+use mathlib.Core.Bool.{Bool, cond, _&&_}
+use mathlib.Core.List.{List}
 use Prim.Native.Nat.{ℕ, suc, _≤_, _<_}
-use lib.Dec.{eqb, leb, ltb}
-use lib.ListN.{length, take}
+use lib.Dec.{eqb, ltb}
+use lib.ListN.{take}
 use Rattle.rule.specs.Func.{Fn}
-use Rattle.rule.specs.Refusal.{Condition, firstBroken, columnsOver, tableOver, nodesLack}
+use Rattle.rule.specs.Refusal.{Condition, firstBroken, nodesLack}
 use Rattle.graph.specs.Entry.{Operated, buildConditions, inRange, resultOf, variableFn}
 use Rattle.graph.specs.declared.operation.Op.the-variants as Op
 use Rattle.graph.specs.declared.entry.Answer.{Answer}
 use Rattle.graph.specs.declared.entry.Answer.the-variants.{Refused}
-use Rattle.nodes.specs.Row.{levels, lows, highs, clearedRow}
+use Rattle.nodes.specs.Row.{levels, lows, highs, clearedRow, overRefusal}
 use Rattle.nodes.specs.declared.row.Node.{Node}
 use Rattle.nodes.specs.declared.operation.Operation.{Operation}
 use Rattle.nodes.specs.declared.operation.Operation.the-variants.{Variable, And, Or, Difference}
@@ -44,10 +44,6 @@ module _ (op : Operation) (n : ℕ) (c : ℕ) (xs : List Node) where
   pub record Operates (ys : List Node) (a : Answer) : Type 0 where
     pub lists : Operated n c (levels xs) (lows xs) (highs xs) (rangedFor op n c) (resultFor op n (levels xs) (lows xs) (highs xs)) (levels ys) (lows ys) (highs ys) a
     pub refused : (r : ℕ) → firstBroken conditions ≡ suc r → ys ≡ leftRow (suc r)
-
--- The refusal of a row of more than 4,096 records: 1 for columns over 16, else 2.
-unfoldable pub overRefusal : ℕ → ℕ
-overRefusal n = firstBroken (record { number = columnsOver; kept = leb n 16 } ∷ record { number = tableOver; kept = false } ∷ [])
 
 -- The same of an array that holds the first records of a row of some length.
 pub record OperatesOn (op : Operation) (n : ℕ) (c : ℕ) (size : ℕ) (table : List Node) (r : Outcome) : Type 0 where

@@ -1,7 +1,10 @@
 -- A row of node records: its three lists, and one row copied over another.
-use mathlib.Core.List.{List, map, _++_}
+use mathlib.Core.Bool.{false}
+use mathlib.Core.List.{List, [], _∷_, map, _++_}
 use Prim.Native.Nat.{ℕ, _-_}
+use lib.Dec.{leb}
 use lib.ListN.{length, take, drop, replicate}
+use Rattle.rule.specs.Refusal.{firstBroken, columnsOver, tableOver}
 use Rattle.nodes.specs.declared.row.Node.{Node}
 
 -- The levels, the lows and the highs of a row's records.
@@ -25,3 +28,7 @@ over xs ys = take (length ys) xs ++ drop (length xs) ys
 -- A row whose records from place c on are zero.
 unfoldable pub clearedRow : ℕ → List Node → List Node
 clearedRow c xs = take c xs ++ replicate (length xs - c) zeroNode
+
+-- The refusal of a row of more than 4,096 records: 1 for columns over 16, else 2.
+unfoldable pub overRefusal : ℕ → ℕ
+overRefusal n = firstBroken (record { number = columnsOver; kept = leb n 16 } ∷ record { number = tableOver; kept = false } ∷ [])

@@ -2,3 +2,5 @@
 pub mod apart;
 pub mod operation;
 pub mod row;
+pub mod value;
+pub mod verdict;

@@ -1,13 +1,12 @@
 // The building operations on a lent row of records.
 ghost use mathlib.Core.Path.{_≡_};
 ghost use Rattle.graph.specs.Entry.{Operated};
-ghost use Rattle.nodes.specs.Operation.{rangedFor, resultFor, overRefusal, Operates, OperatesOn};
+ghost use Rattle.nodes.specs.Operation.{rangedFor, resultFor, Operates, OperatesOn};
 use crate::apart;
 use crate::row;
 use crate::row::Node;
 use graph::entry;
 use graph::entry::Answer;
-use rule::refusal;
 
 // A building operation with its operands: a column, or two roots.
 pub enum Operation {
@@ -21,16 +20,6 @@ pub enum Operation {
 pub struct Outcome {
     pub answer: Answer,
     pub table: [Node; 4096],
-}
-
-// The refusal of a row of more than 4,096 records.
-pub fn over_refusal(columns: u16) -> u16
-    ensures { λ r. ⌜ r ≡ overRefusal columns ⌝ }
-{
-    if 16 < columns {
-        return refusal::COLUMNS_OVER;
-    }
-    refusal::TABLE_OVER
 }
 
 // The operation on three slices.
@@ -63,7 +52,7 @@ fn build(
     ensures { λ r. ⌜ OperatesOn operation columns count size table r ⌝ }
 {
     if 4096 < size {
-        let number = over_refusal(columns);
+        let number = row::over_refusal(columns);
         let answer = Answer::Refused(number, count);
         return Outcome { answer, table };
     }

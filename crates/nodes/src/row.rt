@@ -3,7 +3,8 @@
 ghost use mathlib.Core.Path.{_≡_};
 ghost use Prim.Native.Nat.{min};
 ghost use lib.ListN.{replicate};
-ghost use Rattle.nodes.specs.Row.{zeroNode, over};
+ghost use Rattle.nodes.specs.Row.{zeroNode, over, overRefusal};
+use rule::refusal;
 
 pub struct Node {
     pub level: u16,
@@ -49,4 +50,14 @@ pub fn save(nodes: &mut [Node], table: [Node; 4096])
         nodes[i] = table[i];
         i += 1;
     }
+}
+
+// The refusal of a row of more than 4,096 records.
+pub fn over_refusal(columns: u16) -> u16
+    ensures { λ r. ⌜ r ≡ overRefusal columns ⌝ }
+{
+    if 16 < columns {
+        return refusal::COLUMNS_OVER;
+    }
+    refusal::TABLE_OVER
 }

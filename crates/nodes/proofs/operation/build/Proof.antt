@@ -5,7 +5,8 @@ use borrow.Author.Needs.{needs}
 use lib.ListN.{length}
 use Rattle.graph.specs.declared.entry.Answer.the-variants.{Refused}
 use Rattle.nodes.proofs.Refusals.{levels-long, lows-long, highs-long}
-use Rattle.nodes.proofs.Operations.{part-long, ran, refused-over}
+use Rattle.nodes.proofs.Parts.{part-long}
+use Rattle.nodes.proofs.Operations.{ran, refused-over}
 use Rattle.nodes.proofs.operation.build.Statement.{statement}
 use Rattle.nodes.proofs.operation.build.Tie as tie
 

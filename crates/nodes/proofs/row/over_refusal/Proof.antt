@@ -1,9 +1,9 @@
--- `nodes::operation::over_refusal` meets its contract: the test decides between the two numbers.
+-- `nodes::row::over_refusal` meets its contract: the test decides between the two numbers.
 use mathlib.Core.Path.{sym}
 use borrow.Author.Tests.{lt-leb, le-leb}
 use Rattle.nodes.proofs.Refusals.{over-columns, over-table}
-use Rattle.nodes.proofs.operation.over_refusal.Statement.{statement}
-use Rattle.nodes.proofs.operation.over_refusal.Tie as tie
+use Rattle.nodes.proofs.row.over_refusal.Statement.{statement}
+use Rattle.nodes.proofs.row.over_refusal.Tie as tie
 
 returns : tie.Need-returns
 returns c = sym (over-columns (c .before .args .columns) (lt-leb _ _ (c .if1 .taken)))
