@@ -8,4 +8,5 @@ pub mod Parts
 pub mod Operations
 pub mod Values
 pub mod Verdicts
+pub mod Generating
 pub mod Lending

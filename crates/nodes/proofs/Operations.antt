@@ -45,10 +45,10 @@ of-lists op n c xs ys a o = record {
 }
 
 -- The three lists before and after.
-abbrev Lists : Type 0
+abbrev pub Lists : Type 0
 Lists = List ℕ × List ℕ × List ℕ × List ℕ × List ℕ × List ℕ
 
-along : {v w l k h g v′ w′ l′ k′ h′ g′ : List ℕ} → v ≡ w → l ≡ k → h ≡ g → v′ ≡ w′ → l′ ≡ k′ → h′ ≡ g′ → _≡_ {A = Lists} (v, l, h, v′, l′, h′) (w, k, g, w′, k′, g′)
+pub along : {v w l k h g v′ w′ l′ k′ h′ g′ : List ℕ} → v ≡ w → l ≡ k → h ≡ g → v′ ≡ w′ → l′ ≡ k′ → h′ ≡ g′ → _≡_ {A = Lists} (v, l, h, v′, l′, h′) (w, k, g, w′, k′, g′)
 along p q r p′ q′ r′ = λ i. (p i, q i, r i, p′ i, q′ i, r′ i)
 
 module _ (op : Operation) (n c size : ℕ) (table : List Node) (r : Outcome) where

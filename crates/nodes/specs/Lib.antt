@@ -2,3 +2,4 @@ pub mod Row
 pub mod Operation
 pub mod Value
 pub mod Verdict
+pub mod Generator
