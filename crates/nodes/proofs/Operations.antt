@@ -39,9 +39,9 @@ unfolding conditions leftRow leftBy
 of-lists op n c xs ys a o = record {
   lists = o;
   refused = λ r e.
-    let left = o .refused r e in
-    same-row ys (cond (eqb (suc r) nodesLack) (clearedRow c xs) xs) (left .level ∙ sym (left-field levels c xs (levels-cleared c xs) (eqb (suc r) nodesLack)))
-    (left .low ∙ sym (left-field lows c xs (lows-cleared c xs) (eqb (suc r) nodesLack))) (left .high ∙ sym (left-field highs c xs (highs-cleared c xs) (eqb (suc r) nodesLack)));
+      let left = o .refused r e in
+      same-row ys (cond (eqb (suc r) nodesLack) (clearedRow c xs) xs) (left .level ∙ sym (left-field levels c xs (levels-cleared c xs) (eqb (suc r) nodesLack)))
+      (left .low ∙ sym (left-field lows c xs (lows-cleared c xs) (eqb (suc r) nodesLack))) (left .high ∙ sym (left-field highs c xs (highs-cleared c xs) (eqb (suc r) nodesLack)));
 }
 
 -- The three lists before and after.

@@ -46,7 +46,11 @@ pub fn together(level: [u16; 4096], low: [u16; 4096], high: [u16; 4096]) -> [Nod
     let mut table = row::zeros();
     let mut i = 0;
     while i < 4096 {
-        let node = Node { level: level[i], low: low[i], high: high[i] };
+        let node = Node {
+            level: level[i],
+            low: low[i],
+            high: high[i],
+        };
         table[i] = node;
         i += 1;
     }

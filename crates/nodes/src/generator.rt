@@ -44,7 +44,10 @@ fn generate_on(
         room,
     );
     let after = apart::together(level, low, high);
-    Listing { answer, table: after }
+    Listing {
+        answer,
+        table: after,
+    }
 }
 
 // The list of the rule for a lower and an upper root.

@@ -68,7 +68,10 @@ fn build(
         count,
     );
     let after = apart::together(level, low, high);
-    Outcome { answer, table: after }
+    Outcome {
+        answer,
+        table: after,
+    }
 }
 
 // A building operation on the row.

@@ -16,7 +16,11 @@ pub struct Node {
 pub fn zeros() -> [Node; 4096]
     ensures { λ r. ⌜ r ≡ replicate 4096 zeroNode ⌝ }
 {
-    [Node { level: 0, low: 0, high: 0 }; 4096]
+    [Node {
+        level: 0,
+        low: 0,
+        high: 0,
+    }; 4096]
 }
 
 // How many records both have, a row of some length and the array.

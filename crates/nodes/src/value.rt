@@ -25,7 +25,15 @@ fn value_on(
     let level = apart::levels_of(table);
     let low = apart::lows_of(table);
     let high = apart::highs_of(table);
-    entry::value(columns, &level[..size], &low[..size], &high[..size], count, root, point)
+    entry::value(
+        columns,
+        &level[..size],
+        &low[..size],
+        &high[..size],
+        count,
+        root,
+        point,
+    )
 }
 
 // The value of a root at a point.

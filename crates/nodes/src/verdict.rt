@@ -1,11 +1,11 @@
 // The verdict on any list, on a lent row of records.
 ghost use mathlib.Core.Path.{_≡_};
 ghost use Rattle.nodes.specs.Verdict.{rowVerdict, JudgesOn};
-use checker::entry;
-use checker::judged::Judged;
 use crate::apart;
 use crate::row;
 use crate::row::Node;
+use checker::entry;
+use checker::judged::Judged;
 
 // The verdict on the first records of an array, as many as the row has.
 fn check_on(
@@ -26,7 +26,16 @@ fn check_on(
     let level = apart::levels_of(table);
     let low = apart::lows_of(table);
     let high = apart::highs_of(table);
-    entry::check(columns, &level[..size], &low[..size], &high[..size], count, lower, upper, list)
+    entry::check(
+        columns,
+        &level[..size],
+        &low[..size],
+        &high[..size],
+        count,
+        lower,
+        upper,
+        list,
+    )
 }
 
 // The verdict of the rule on any list for a lower and an upper root.

@@ -239,9 +239,16 @@ module _ {M : Type 1} (𝓤 : URA M) (H : Heap 𝓤) (A : Atoms 𝓤) (W : Given
       (are .0 .1) (are .1 .1 .0 .1) (are .1 .1 .1 .0 .1) (are .1 .1 .1 .1 .0 .1) (are .1 .0 .0 .1) (are .1 .1 .1 .1 .1 .0 .0 .1) 𝓣 known-load known-generate known-save))
 
   generate-meets : Meets 𝓤 H A generate.signature (WpFn 𝓤 H (𝓣 .C) (𝓣 .Λ) code.function) (generate.spec 𝓤 H A mem run)
-  generate-meets = walk-meets 𝓤 H A generate.ended stayed W
-      (goes-dropped 𝓤 H A W 2 (plain (λ _. u16)) yes (λ κs x f. refl), (goes-gave-slice 𝓤 H A W 2 0 tt (plain (λ _. N)), (goes-dropped 𝓤 H A W 2 (plain (λ _. usize)) yes (λ κs x f. refl),
-      (goes-dropped 𝓤 H A W 2 (plain (λ _. u16)) yes (λ κs x f. refl), (goes-dropped 𝓤 H A W 2 (plain (λ _. u16)) yes (λ κs x f. refl), (goes-gave-slice 𝓤 H A W 2 1 tt (plain (λ _. u32)), tt))))))
+  generate-meets = walk-meets 𝓤 H A generate.ended stayed W (
+    goes-dropped 𝓤 H A W 2 (plain (λ _. u16)) yes (λ κs x f. refl),
+    (
+      goes-gave-slice 𝓤 H A W 2 0 tt (plain (λ _. N)),
+      (
+        goes-dropped 𝓤 H A W 2 (plain (λ _. usize)) yes (λ κs x f. refl),
+        (goes-dropped 𝓤 H A W 2 (plain (λ _. u16)) yes (λ κs x f. refl), (goes-dropped 𝓤 H A W 2 (plain (λ _. u16)) yes (λ κs x f. refl), (goes-gave-slice 𝓤 H A W 2 1 tt (plain (λ _. u32)), tt))),
+      ),
+    ),
+  )
       (generate.clauses 𝓤 H A mem run) (WpFn 𝓤 H (𝓣 .C) (𝓣 .Λ) code.function) (WpFn-mono 𝓤 H (W .laws) 𝓣 code.function) generate-walks
 
 pub generate-spec : {M : Type 1} → stated.statement M

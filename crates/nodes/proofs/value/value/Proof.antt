@@ -161,9 +161,16 @@ module _ {M : Type 1} (𝓤 : URA M) (H : Heap 𝓤) (A : Atoms 𝓤) (W : Given
       (walk 𝓤 H A W mem run (κs .0) (qs .0) (a .1 .0 .ptr .0) (a .1 .0 .ptr .1) (a .1 .0 .name) (a .1 .0 .now) (a .0) (a .1 .1 .0) (a .1 .1 .1 .0) (a .1 .1 .1 .1 .0) (are .0 .1) (are .1 .1 .0 .1) (are .1 .1 .1 .0 .1) (are .1 .1 .1 .1 .0 .1) (are .1 .0 .0 .1) 𝓣 known-load known-value))
 
   value-meets : Meets 𝓤 H A value.signature (WpFn 𝓤 H (𝓣 .C) (𝓣 .Λ) code.function) (value.spec 𝓤 H A mem run)
-  value-meets = walk-meets 𝓤 H A value.ended stayed W
-      (goes-dropped 𝓤 H A W 1 (plain (λ _. u16)) yes (λ κs x f. refl), (goes-dropped 𝓤 H A W 1 (shrSliceOf (0 ∷ []) tt (plain (λ _. N))) yes (λ κs x f. refl), (goes-dropped 𝓤 H A W 1 (plain (λ _. usize)) yes (λ κs x f. refl),
-      (goes-dropped 𝓤 H A W 1 (plain (λ _. u16)) yes (λ κs x f. refl), (goes-dropped 𝓤 H A W 1 (plain (λ _. u32)) yes (λ κs x f. refl), tt)))))
+  value-meets = walk-meets 𝓤 H A value.ended stayed W (
+    goes-dropped 𝓤 H A W 1 (plain (λ _. u16)) yes (λ κs x f. refl),
+    (
+      goes-dropped 𝓤 H A W 1 (shrSliceOf (0 ∷ []) tt (plain (λ _. N))) yes (λ κs x f. refl),
+      (
+        goes-dropped 𝓤 H A W 1 (plain (λ _. usize)) yes (λ κs x f. refl),
+        (goes-dropped 𝓤 H A W 1 (plain (λ _. u16)) yes (λ κs x f. refl), (goes-dropped 𝓤 H A W 1 (plain (λ _. u32)) yes (λ κs x f. refl), tt)),
+      ),
+    ),
+  )
       (value.clauses 𝓤 H A mem run) (WpFn 𝓤 H (𝓣 .C) (𝓣 .Λ) code.function) (WpFn-mono 𝓤 H (W .laws) 𝓣 code.function) value-walks
 
 pub value-spec : {M : Type 1} → stated.statement M
