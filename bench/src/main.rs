@@ -17,7 +17,7 @@ struct Case {
     verdict: (u64, [u64; 2]),
 }
 
-const CASES: [Case; 3] = [
+const CASES: [Case; 4] = [
     Case {
         name: "threshold",
         sign: at_least_eight,
@@ -36,7 +36,27 @@ const CASES: [Case; 3] = [
         rows: odd_points,
         verdict: (ACCEPT, [0, 0]),
     },
+    Case {
+        name: "literals",
+        sign: off_at_the_end,
+        rows: || vec![LAST_SIX; 16_384],
+        verdict: (CUBE, [1, 0]),
+    },
 ];
+
+/// The row whose literals are 1 in the last six columns.
+const LAST_SIX: u32 = 0xfc00;
+
+/// On where the last six columns are all 1; off where the other ten are all 1 and of the last six all but one: so each
+/// literal of that row is needed, for an off point that stands in the last word of a table.
+fn off_at_the_end(point: u32) -> u8 {
+    let last = (point & LAST_SIX).count_ones();
+    match (last, point & !LAST_SIX) {
+        (6, _) => b'1',
+        (5, 0x03ff) => b'0',
+        _ => b'-',
+    }
+}
 
 fn odd(point: u32) -> bool {
     point.count_ones() % 2 == 1

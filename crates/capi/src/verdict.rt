@@ -3,7 +3,7 @@
 ghost use Rattle.checker.specs.Entry.{answerFor, refusal};
 ghost use Rattle.capi.specs.Told.{ToldVerdict};
 use crate::told;
-use checker::entry;
+use list::check;
 
 // The verdict on any list for a lower and an upper root.
 #[no_mangle]
@@ -20,6 +20,6 @@ pub extern "C" fn dowrhesk_check(
 ) -> u16
     ensures { λ r. ⌜ ToldVerdict (answerFor columns count (now (level .entry)) (now (low .entry)) (now (high .entry)) lower upper (now (list .entry)) (refusal columns count (now (level .entry)) (now (low .entry)) (now (high .entry)) lower upper (now (list .entry)))) r (now (out .exit)) ⌝ }
 {
-    let answer = entry::check(columns, level, low, high, count, lower, upper, list);
+    let answer = check::check(columns, level, low, high, count, lower, upper, list);
     told::tell_verdict(answer, out)
 }

@@ -19,7 +19,6 @@ use Rattle.rule.proofs.Bools.{not-is-false}
 use Rattle.rule.proofs.Search.{first-none}
 use Rattle.graph.specs.Table.{tableOf, fnOf}
 use Rattle.graph.specs.Sound.{RootedTwice}
-use Rattle.graph.proofs.Columns.{first-root, second-root}
 use Rattle.words.specs.Word.{words, size, foundNumber}
 use Rattle.words.specs.Faults.{coveredTwice}
 use Rattle.words.specs.Contract.{Lessened, Outside}
@@ -27,7 +26,7 @@ use Rattle.words.proofs.Answers.{within-answer}
 use Rattle.checker.specs.declared.judged.Judged.{Judged}
 use Rattle.checker.specs.declared.judged.Judged.the-variants.{Accept, Off, Missing, Literal, Cube as CubeGoes, Refused}
 use Rattle.checker.specs.Judging.{judgedAs, judgedFault, isAccept}
-use Rattle.checker.specs.Contract.{cubes, offWords, RootTable, OffFound, MissingFound, Formed, NoneOff, LiteralFound, CubeFound, Covered, TablesFilled}
+use Rattle.checker.specs.Contract.{cubes, offWords, Formed, NoneOff, Covered, TablesFilled}
 use Rattle.checker.proofs.Finding.{cube-at, cubes-long}
 use Rattle.checker.proofs.Filling.{TableOf}
 
@@ -54,15 +53,15 @@ module _ (m : ℕ) (on outer list : List ℕ) (L U : Fn m) (e : on ≡ words m L
   abbrev whole : Judged
   whole = judgedAs (verdictNumbers m L U list)
 
-  module _ (a : Judged) (fa : OffFound m outer list a) where
+  module _ (a : Judged) (fa : outer ≡ offWords m U → a ≡ judgedFault (faultA m L U cs)) where
     pub judged-a : isAccept a ≡ false → a ≡ whole
     unfolding verdictNumbers verdict
-    judged-a f = stop (faultA m L U cs) (faultB m L U cs ∷ faultC m L U cs ∷ faultD m L U cs ∷ []) a (fa .fault L U d) f
+    judged-a f = stop (faultA m L U cs) (faultB m L U cs ∷ faultC m L U cs ∷ faultD m L U cs ∷ []) a (fa d) f
 
     module _ (ta : isAccept a ≡ true) where
       no-a : first (coversOff m L U cs) (length cs) ≡ none
       unfolding faultA judgedAs isAccept
-      no-a = fault-none (λ i. off (i + 1) (pointNumber (offPoint m L U cs i))) (λ x. refl) (first (coversOff m L U cs) (length cs)) a (fa .fault L U d) ta
+      no-a = fault-none (λ i. off (i + 1) (pointNumber (offPoint m L U cs i))) (λ x. refl) (first (coversOff m L U cs) (length cs)) a (fa d) ta
 
       past-a : whole ≡ judgedAs (firstFault (faultB m L U cs ∷ faultC m L U cs ∷ faultD m L U cs ∷ []))
       unfolding verdictNumbers verdict firstFault faultA fault
@@ -79,9 +78,9 @@ module _ (m : ℕ) (on outer list : List ℕ) (L U : Fn m) (e : on ≡ words m L
                 (first-none (coversOff m L U cs) (length cs) no-a i (omega (arith, cubes-long m list)));
           }
 
-      module _ (once again bare : List ℕ) (cv : Covered m list once again) (lb : Lessened on once bare) (b : Judged) (fb : MissingFound m bare b) where
+      module _ (once again bare : List ℕ) (cv : Covered m list once again) (lb : Lessened on once bare) (b : Judged) (fb : bare ≡ words m (less m L (covered m cs)) → b ≡ judgedFault (faultB m L U cs)) where
         told-b : b ≡ judgedFault (faultB m L U cs)
-        told-b = fb .fault L U cs (lb .table m L (covered m cs) e (cv .covers))
+        told-b = fb (lb .table m L (covered m cs) e (cv .covers))
 
         pub judged-b : isAccept b ≡ false → b ≡ whole
         judged-b f = stop (faultB m L U cs) (faultC m L U cs ∷ faultD m L U cs ∷ []) b told-b f ∙ sym past-a
@@ -100,9 +99,9 @@ module _ (m : ℕ) (on outer list : List ℕ) (L U : Fn m) (e : on ≡ words m L
           all-covered : within m L (covered m cs) ≡ true
           all-covered = within-answer m L (covered m cs) ∙ ap (λ o. eqb (foundNumber o) 0) no-b ∙ none-zero
 
-          module _ (c : Judged) (fc : LiteralFound m outer list c) where
+          module _ (c : Judged) (fc : outer ≡ offWords m U → Formed m list → NoneOff m U list → c ≡ judgedFault (faultC m L U cs)) where
             told-c : c ≡ judgedFault (faultC m L U cs)
-            told-c = fc .fault L U d w none-off
+            told-c = fc d w none-off
 
             pub judged-c : isAccept c ≡ false → c ≡ whole
             judged-c f = stop (faultC m L U cs) (faultD m L U cs ∷ []) c told-c f ∙ sym past-b
@@ -118,21 +117,17 @@ module _ (m : ℕ) (on outer list : List ℕ) (L U : Fn m) (e : on ≡ words m L
                   past-b ∙
                   ap (λ o. judgedAs (firstFault (fault (λ i. literal (i + 1) (found (first (canGo m L U cs i) m) 0)) o ∷ faultD m L U cs ∷ []))) no-c
 
-              pub judged-d : (lone : List ℕ) → Lessened on again lone → (r : Judged) → CubeFound m lone list r → r ≡ whole
+              pub judged-d : (lone : List ℕ) → Lessened on again lone → (r : Judged)
+                  → (lone ≡ words m (less m L (coveredTwice m cs)) → within m L (covered m cs) ≡ true → r ≡ judgedFault (faultD m L U cs)) → r ≡ whole
               unfolding judgedFault
-              judged-d lone ld r fd = fd .fault L U (ld .table m L (coveredTwice m cs) e (cv .twice)) all-covered ∙ sym past-c
+              judged-d lone ld r fd = fd (ld .table m L (coveredTwice m cs) e (cv .twice)) all-covered ∙ sym past-c
+
+-- All columns are left at column 0.
+pub whole-long : {k : ℕ} (n : ℕ) → k ≡ size n → k ≡ size (n - 0)
+whole-long n e = let z : n ≡ n - 0 = omega arith in e ∙ ap size z
 
 -- The tables of two roots from column 0 on.
 module _ (n c : ℕ) (v l h : List ℕ) (a b : ℕ) (roots : RootedTwice n c v l h 0 a b) where
-  all-left : n ≡ n - 0
-  all-left = omega arith
-
-  pub first-table : (s : List ℕ) → length s ≡ size n → RootTable n c v l h 0 a s
-  first-table s e = record { root = first-root roots; long = e ∙ ap size all-left }
-
-  pub second-table : (s : List ℕ) → length s ≡ size n → RootTable n c v l h 0 b s
-  second-table s e = record { root = second-root roots; long = e ∙ ap size all-left }
-
   pub both-filled : (on outer outer′ : List ℕ) → TableOf n (tableOf v l h) 0 a on → TableOf n (tableOf v l h) 0 b outer → Outside n outer outer′
       → TablesFilled n v l h a b on outer′
   both-filled on outer outer′ p q o =

@@ -1,5 +1,7 @@
 -- The faults found by searches. Each loop's invariant says that what was tried before place i fails the rule's test, for all
 -- functions whose table is searched; so the place that passes is the first, and the end of the list means that none does.
+-- What a search answers is an equation with the rule's fault, whatever its contract says: a contract that says something
+-- else is refused where the function returns.
 use mathlib.Core.Path.{_≡_, refl, sym, ap, ap₂, _∙_, subst, subst⁻¹}
 use mathlib.Core.Bool.{Bool, true, false, not, _&&_, _||_}
 use mathlib.Core.List.{List, [], _∷_}
@@ -15,7 +17,7 @@ use lib.Seq.{drop-cons}
 use borrow.Author.Tests.{eq-eqb, ne-eqb, eqb-true, eqb-false}
 use Rattle.rule.specs.Func.{Fn, constant, less, within}
 use Rattle.rule.specs.Point.{odd, pointNumber, smallest}
-use Rattle.rule.specs.Cube.{cubeFn, covered, hasLiteral, withoutLiteral, cubeAt}
+use Rattle.rule.specs.Cube.{Cube, cubeFn, covered, hasLiteral, withoutLiteral, cubeAt}
 use Rattle.rule.specs.Number.{signs, wellFormed}
 use Rattle.rule.specs.Verdict.{off, missing, literal, cube, first, found, isFound, fault, firstFault, coversOff, offPoint, faultA, faultB, canGo, goes, faultC, spare, faultD}
 use Rattle.rule.proofs.Bools.{which}
@@ -28,7 +30,7 @@ use Rattle.words.proofs.Turned.{literal-bits}
 use Rattle.words.proofs.Searches.{covered-more, twice-more, off-point, off-answer, first-point, literal-search, spare-search}
 use Rattle.checker.specs.declared.judged.Judged.the-variants.{Accept, Off, Missing, Literal, Cube as CubeGoes}
 use Rattle.checker.specs.Judging.{judgedAs, judgedFault, placeNumber}
-use Rattle.checker.specs.Contract.{cubes, offWords, OffFound, MissingFound, columnGoes, GoesFound, ColumnFound, Formed, NoneOff, LiteralFound, CubeFound, Covered}
+use Rattle.checker.specs.Contract.{cubes, offWords, columnGoes, GoesFound, ColumnFound, Formed, NoneOff, Covered}
 
 -- The cube at a place of a list of numbers.
 pub cube-at : (m : ℕ) (list : List ℕ) (i : ℕ) → i < length list → cubeAt (cubes m list) i ≡ signs m (getD list i 0)
@@ -94,51 +96,39 @@ module _ (m : ℕ) (xs list : List ℕ) where
         ap (λ c. foundNumber (smallest m (less m (cubeFn m c) U))) (sym (cube-at m list i h)) in
         answer-point o (λ z. n (q ∙ z)) ∙ ap (λ y. y - 1) (sym q)
 
-    pub off-here : (r ≡ 0 → ⊥) → OffFound m xs list (Off (i + 1) (r - 1))
+    pub off-here : (r ≡ 0 → ⊥) → (L U : Fn m) → xs ≡ offWords m U → Off (i + 1) (r - 1) ≡ judgedFault (faultA m L U (cubes m list))
     unfolding faultA fault judgedFault judgedAs firstFault
-    off-here n =
-        record {
-          fault = λ L U e.
-              sym
-              (ap (λ o. judgedFault (fault (λ j. off (j + 1) (pointNumber (offPoint m L U (cubes m list) j))) o)) (off-first n L U e) ∙
-              ap (Off (i + 1)) (off-number n L U e));
-        }
+    off-here n L U e =
+        sym
+        (ap (λ o. judgedFault (fault (λ j. off (j + 1) (pointNumber (offPoint m L U (cubes m list) j))) o)) (off-first n L U e) ∙
+        ap (Off (i + 1)) (off-number n L U e))
 
-  pub off-end : (i : ℕ) → OffPassed m xs list i → length list ≤ i → OffFound m xs list Accept
+  pub off-end : (i : ℕ) → OffPassed m xs list i → length list ≤ i → (L U : Fn m) → xs ≡ offWords m U → Accept ≡ judgedFault (faultA m L U (cubes m list))
   unfolding faultA fault
-  off-end i p h =
-      record {
-        fault = λ L U e.
-            sym
-            (ap (λ o. judgedFault (fault (λ j. off (j + 1) (pointNumber (offPoint m L U (cubes m list) j))) o))
-            (no-first (coversOff m L U (cubes m list)) (length (cubes m list))
-            (λ j l. p .passed L U e j (omega (arith, cubes-long m list)))) ∙ none-accepts);
-      }
+  off-end i p h L U e =
+      sym
+      (ap (λ o. judgedFault (fault (λ j. off (j + 1) (pointNumber (offPoint m L U (cubes m list) j))) o))
+      (no-first (coversOff m L U (cubes m list)) (length (cubes m list))
+      (λ j l. p .passed L U e j (omega (arith, cubes-long m list)))) ∙ none-accepts)
 
 -- (b) The smallest point of the table, if there is one.
 module _ (m : ℕ) (xs : List ℕ) (r : ℕ) (a : FirstIn m 0 0 xs r) where
-  pub missing-none : r ≡ 0 → MissingFound m xs Accept
+  pub missing-none : r ≡ 0 → (L U : Fn m) (cs : List Cube) → xs ≡ words m (less m L (covered m cs)) → Accept ≡ judgedFault (faultB m L U cs)
   unfolding faultB fault
-  missing-none z =
-      record {
-        fault = λ L U cs e.
-            let f = less m L (covered m cs) in
-            sym
-            (ap (λ o. judgedFault (fault (λ p. missing (pointNumber p)) o)) (answer-none (smallest m f) (sym (first-point m f a e) ∙ z)) ∙
-            none-accepts);
-      }
+  missing-none z L U cs e =
+      let f = less m L (covered m cs) in
+      sym
+      (ap (λ o. judgedFault (fault (λ p. missing (pointNumber p)) o)) (answer-none (smallest m f) (sym (first-point m f a e) ∙ z)) ∙
+      none-accepts)
 
-  pub missing-some : (r ≡ 0 → ⊥) → MissingFound m xs (Missing (r - 1))
+  pub missing-some : (r ≡ 0 → ⊥) → (L U : Fn m) (cs : List Cube) → xs ≡ words m (less m L (covered m cs)) → Missing (r - 1) ≡ judgedFault (faultB m L U cs)
   unfolding faultB fault judgedFault judgedAs firstFault
-  missing-some n =
-      record {
-        fault = λ L U cs e.
-            let o = smallest m (less m L (covered m cs)) in
-            let q : r ≡ foundNumber o = first-point m (less m L (covered m cs)) a e in
-            sym
-            (ap (λ o. judgedFault (fault (λ p. missing (pointNumber p)) o)) (answer-some o (λ z. n (q ∙ z))) ∙
-            ap Missing (answer-point o (λ z. n (q ∙ z)) ∙ ap (λ y. y - 1) (sym q)));
-      }
+  missing-some n L U cs e =
+      let o = smallest m (less m L (covered m cs)) in
+      let q : r ≡ foundNumber o = first-point m (less m L (covered m cs)) a e in
+      sym
+      (ap (λ o. judgedFault (fault (λ p. missing (pointNumber p)) o)) (answer-some o (λ z. n (q ∙ z))) ∙
+      ap Missing (answer-point o (λ z. n (q ∙ z)) ∙ ap (λ y. y - 1) (sym q)))
 
 -- (c) Whether a column's literal can go.
 module _ (m k x : ℕ) (xs : List ℕ) (t : Bool) (column : k < m) (e : t ≡ (odd (x % 65536 / 2 ^ k) || odd (x / 65536 / 2 ^ k))) where
@@ -252,29 +242,25 @@ module _ (m : ℕ) (xs list : List ℕ) where
           before = p .passed L U e w g;
         })
 
-    pub literal-here : (r ≡ 0 → ⊥) → LiteralFound m xs list (Literal (i + 1) (r - 1))
+    pub literal-here : (r ≡ 0 → ⊥) → (L U : Fn m) → xs ≡ offWords m U → Formed m list → NoneOff m U list
+        → Literal (i + 1) (r - 1) ≡ judgedFault (faultC m L U (cubes m list))
     unfolding faultC fault judgedFault judgedAs firstFault
-    literal-here n =
-        record {
-          fault = λ L U e w g.
-              let o = first (canGo m L U (cubes m list) i) m in
-              let q : r ≡ placeNumber o = column-told L U e w g in
-              sym
-              (ap (λ o. judgedFault (fault (λ j. literal (j + 1) (found (first (canGo m L U (cubes m list) j) m) 0)) o))
-              (literal-first n L U e w g) ∙
-              ap (Literal (i + 1)) (place-is o (λ z. n (q ∙ z)) ∙ ap (λ y. y - 1) (sym q)));
-        }
+    literal-here n L U e w g =
+        let o = first (canGo m L U (cubes m list) i) m in
+        let q : r ≡ placeNumber o = column-told L U e w g in
+        sym
+        (ap (λ o. judgedFault (fault (λ j. literal (j + 1) (found (first (canGo m L U (cubes m list) j) m) 0)) o))
+        (literal-first n L U e w g) ∙
+        ap (Literal (i + 1)) (place-is o (λ z. n (q ∙ z)) ∙ ap (λ y. y - 1) (sym q)))
 
-  pub literal-end : (i : ℕ) → LiteralPassed m xs list i → length list ≤ i → LiteralFound m xs list Accept
+  pub literal-end : (i : ℕ) → LiteralPassed m xs list i → length list ≤ i → (L U : Fn m) → xs ≡ offWords m U → Formed m list → NoneOff m U list
+      → Accept ≡ judgedFault (faultC m L U (cubes m list))
   unfolding faultC fault
-  literal-end i p h =
-      record {
-        fault = λ L U e w g.
-            sym
-            (ap (λ o. judgedFault (fault (λ j. literal (j + 1) (found (first (canGo m L U (cubes m list) j) m) 0)) o))
-            (no-first (goes m L U (cubes m list)) (length (cubes m list))
-            (λ j l. p .passed L U e w g j (omega (arith, cubes-long m list)))) ∙ none-accepts);
-      }
+  literal-end i p h L U e w g =
+      sym
+      (ap (λ o. judgedFault (fault (λ j. literal (j + 1) (found (first (canGo m L U (cubes m list) j) m) 0)) o))
+      (no-first (goes m L U (cubes m list)) (length (cubes m list))
+      (λ j l. p .passed L U e w g j (omega (arith, cubes-long m list)))) ∙ none-accepts)
 
 -- (d) No cube before place i can go.
 pub record CubePassed (m : ℕ) (xs list : List ℕ) (i : ℕ) : Type 0 where
@@ -299,30 +285,26 @@ module _ (m : ℕ) (xs list : List ℕ) where
               one-more (λ j. spare m L U (cubes m list) j ≡ false) i (p .passed L U e w) (cube-test L U e w ∙ ne-eqb r 0 n);
         }
 
-    pub cube-here : r ≡ 0 → CubeFound m xs list (CubeGoes (i + 1))
+    pub cube-here : r ≡ 0 → (L U : Fn m) → xs ≡ words m (less m L (coveredTwice m (cubes m list))) → within m L (covered m (cubes m list)) ≡ true
+        → CubeGoes (i + 1) ≡ judgedFault (faultD m L U (cubes m list))
     unfolding faultD fault judgedFault judgedAs firstFault
-    cube-here z =
-        record {
-          fault = λ L U e w.
-              sym
-              (ap (λ o. judgedFault (fault (λ j. cube (j + 1)) o))
-              (is-first (record {
-                place = omega (arith, cubes-long m list);
-                passes = cube-test L U e w ∙ eq-eqb r 0 z;
-                before = p .passed L U e w;
-              })));
-        }
+    cube-here z L U e w =
+        sym
+        (ap (λ o. judgedFault (fault (λ j. cube (j + 1)) o))
+        (is-first (record {
+          place = omega (arith, cubes-long m list);
+          passes = cube-test L U e w ∙ eq-eqb r 0 z;
+          before = p .passed L U e w;
+        })))
 
-  pub cube-end : (i : ℕ) → CubePassed m xs list i → length list ≤ i → CubeFound m xs list Accept
+  pub cube-end : (i : ℕ) → CubePassed m xs list i → length list ≤ i → (L U : Fn m) → xs ≡ words m (less m L (coveredTwice m (cubes m list))) → within m L (covered m (cubes m list)) ≡ true
+      → Accept ≡ judgedFault (faultD m L U (cubes m list))
   unfolding faultD fault
-  cube-end i p h =
-      record {
-        fault = λ L U e w.
-            sym
-            (ap (λ o. judgedFault (fault (λ j. cube (j + 1)) o))
-            (no-first (spare m L U (cubes m list)) (length (cubes m list))
-            (λ j l. p .passed L U e w j (omega (arith, cubes-long m list)))) ∙ none-accepts);
-      }
+  cube-end i p h L U e w =
+      sym
+      (ap (λ o. judgedFault (fault (λ j. cube (j + 1)) o))
+      (no-first (spare m L U (cubes m list)) (length (cubes m list))
+      (λ j l. p .passed L U e w j (omega (arith, cubes-long m list)))) ∙ none-accepts)
 
 -- The tables of what the cubes from place i on cover.
 pub record Covering (m : ℕ) (list : List ℕ) (i : ℕ) (once again : List ℕ) : Type 0 where

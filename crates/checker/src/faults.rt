@@ -43,10 +43,10 @@ pub fn missing_fault(bare: &[u64], columns: u16) -> Judged
     ensures { λ r. ⌜ MissingFound columns (now (bare .entry)) r ⌝ }
 {
     let r = cube::first_in(bare, columns, 0, 0);
-    if r == 0 {
-        return Judged::Accept;
+    if r != 0 {
+        return Judged::Missing(r - 1);
     }
-    Judged::Missing(r - 1)
+    Judged::Accept
 }
 
 // Whether a column of a cube has a literal.

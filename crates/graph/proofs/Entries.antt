@@ -70,7 +70,7 @@ module _ {c : ℕ} {v : List ℕ} {l : List ℕ} {h : List ℕ} where
         high = cleared-at c h (omega (arith, s .count, s .high));
       }
 
-  cleared-sized : Sized c v l h → Sized c (cleared c v) (cleared c l) (cleared c h)
+  pub cleared-sized : Sized c v l h → Sized c (cleared c v) (cleared c l) (cleared c h)
   cleared-sized s =
       record {
         count = omega (arith, s .count, cleared-length c v);

@@ -1,14 +1,14 @@
 -- The first broken condition of an entry: what each test says of it, in any list of conditions, and for the conditions of
 -- a table.
-use mathlib.Core.Path.{_≡_, refl, sym, ap, _∙_}
+use mathlib.Core.Path.{_≡_, refl, sym, ap, _∙_, subst⁻¹}
 use mathlib.Core.Bool.{Bool, true, false, cond, not, _&&_}
 use mathlib.Core.List.{List, [], _∷_, _++_}
 use mathlib.Core.Logic.{_⊎_, inl, inr}
 use Prim.Native.Nat.{ℕ, _<_, _≤_}
 use native.Mathlib.Omega.{arith}
-use lib.Dec.{eqb, leb}
+use lib.Dec.{eqb, leb, ltb}
 use lib.ListN.{length}
-use borrow.Author.Tests.{leb-true, eqb-true, eqb-false, le-leb, lt-leb, eq-eqb, not-true}
+use borrow.Author.Tests.{leb-true, eqb-true, eqb-false, ltb-true, le-leb, lt-leb, eq-eqb, not-true}
 use Rattle.rule.specs.Refusal.{Condition, firstBroken, columnsOver, tableOver, recordBroken}
 use Rattle.rule.proofs.Bools.{and-left, and-right, and-intro, which, must-be-false}
 use Rattle.graph.specs.Table.{tableOf, goodTable}
@@ -76,6 +76,27 @@ kept-before [] ds u e = refl
 kept-before (c ∷ cs) ds u e =
     let n = other-number 0 c cs u in
     kept-next c (cs ++ ds) (first-kept c cs n e) ∙ kept-before cs ds (others-unused 0 c cs u) (others-kept c cs n e)
+
+-- Where conditions and others after them are all kept, they are.
+pub before-kept : (cs : List Condition) (ds : List Condition) → firstBroken (cs ++ ds) ≡ 0 → firstBroken cs ≡ 0
+before-kept cs ds e = go (which (eqb (firstBroken cs) 0))
+  where
+    go : (eqb (firstBroken cs) 0 ≡ true) ⊎ (eqb (firstBroken cs) 0 ≡ false) → firstBroken cs ≡ 0
+    go (inl t) = eqb-true (firstBroken cs) 0 t
+    go (inr f) = let d = eqb-false (firstBroken cs) 0 f in sym (broken-before cs ds (firstBroken cs) d refl) ∙ e
+
+-- Every number of some conditions is below a bound, and so is that of the first broken one.
+abbrev pub allBelow : ℕ → List Condition → Bool
+allBelow b [] = true
+allBelow b (c ∷ cs) = ltb (c .number) b && allBelow b cs
+
+pub broken-below : (b : ℕ) → 0 < b → (cs : List Condition) → allBelow b cs ≡ true → firstBroken cs < b
+broken-below b z [] u = subst⁻¹ (λ x. x < b) none-broken z
+broken-below b z (c ∷ cs) u = go (which (c .kept)) (broken-below b z cs (and-right (ltb (c .number) b) (allBelow b cs) u))
+  where
+    go : (c .kept ≡ true) ⊎ (c .kept ≡ false) → firstBroken cs < b → firstBroken (c ∷ cs) < b
+    go (inl t) ih = subst⁻¹ (λ x. x < b) (kept-next c cs t) ih
+    go (inr f) ih = subst⁻¹ (λ x. x < b) (broken-here c cs f) (ltb-true (c .number) b (and-left (ltb (c .number) b) (allBelow b cs) u))
 
 -- The test of a table's sizes.
 abbrev sizesTest : ℕ → List ℕ → List ℕ → List ℕ → Bool

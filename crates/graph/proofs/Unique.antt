@@ -97,7 +97,7 @@ same-cleared c s t w b h =
     (ext-getD 0 (take c s) (take c t) (length-take-le c s b ∙ sym (length-take-le c t (omega arith)))
     (λ j u. let v : j < c = omega (arith, length-take-le c s b) in getD-take c s j 0 v ∙ sym (h j v) ∙ sym (getD-take c t j 0 v)))
 
-one-slice : (c : ℕ) (d : ℕ) (s : List ℕ) (t : List ℕ) → c ≡ d → length s ≡ length t → c ≤ length s → ((j : ℕ) → j < c → getD t j 0 ≡ getD s j 0) →
+pub one-slice : (c : ℕ) (d : ℕ) (s : List ℕ) (t : List ℕ) → c ≡ d → length s ≡ length t → c ≤ length s → ((j : ℕ) → j < c → getD t j 0 ≡ getD s j 0) →
     s ≡ cleared c s → t ≡ cleared d t → s ≡ t
 one-slice c d s t e w b a p q = p ∙ same-cleared c s t w b a ∙ ap (λ k. cleared k t) e ∙ sym q
 

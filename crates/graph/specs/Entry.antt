@@ -5,10 +5,10 @@ use mathlib.Core.List.{List, [], _∷_, _++_}
 use Prim.Native.Nat.{ℕ, zero, suc, _+_, _-_, _^_}
 use lib.Dec.{eqb, leb, ltb}
 use lib.ListN.{length, take, replicate}
-use Rattle.rule.specs.Func.{Fn, constant, joined}
+use Rattle.rule.specs.Func.{Fn, constant, joined, within}
 use Rattle.rule.specs.Point.{at, digits}
 use Rattle.rule.specs.Nodes.{nodes, addAll}
-use Rattle.rule.specs.Refusal.{Condition, firstBroken, columnsOver, tableOver, recordBroken, outOfRange, nodesLack}
+use Rattle.rule.specs.Refusal.{Condition, firstBroken, columnsOver, tableOver, recordBroken, outOfRange, notWithin, listOver, nodesLack}
 use Rattle.graph.specs.Table.{tableOf, fnOf, goodTable, functions}
 use Rattle.graph.specs.Operation.{opOf}
 use Rattle.graph.specs.Built.{Built}
@@ -107,6 +107,15 @@ module _ (n : ℕ) (c : ℕ) (v : List ℕ) (l : List ℕ) (h : List ℕ) (range
 -- Whether a number is a constant or that of a record in use.
 unfoldable pub inRange : ℕ → ℕ → Bool
 inRange c x = ltb x (c + 2)
+
+-- What generator and checker ask of their input: the table's conditions; 4, both roots are in range; 5, L lies within U; 6,
+-- the list slice is at most 16,384 long.
+unfoldable pub inputConditions : ℕ → ℕ → List ℕ → List ℕ → List ℕ → ℕ → ℕ → ℕ → List Condition
+inputConditions n c v l h a b size =
+    tableConditions n c v l h ++
+    (record { number = outOfRange; kept = inRange c a && inRange c b } ∷
+    record { number = notWithin; kept = within n (fnOf (tableOf v l h) 0 n a) (fnOf (tableOf v l h) 0 n b) } ∷
+    record { number = listOver; kept = leb size 16384 } ∷ [])
 
 -- The result of an operation of two roots.
 unfoldable pub resultOf : Op → (n : ℕ) → List ℕ → List ℕ → List ℕ → ℕ → ℕ → Fn n

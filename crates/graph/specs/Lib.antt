@@ -2,6 +2,7 @@
 -- the crate promise.
 pub mod Table
 pub mod Sound
+pub mod Chain
 pub mod Operation
 pub mod Built
 pub mod Run

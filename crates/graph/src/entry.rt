@@ -5,7 +5,7 @@ ghost use Prim.Native.Nat.{ℕ, _+_, _≤_};
 ghost use lib.Dec.{ltb};
 ghost use lib.ListN.{length};
 ghost use Rattle.rule.specs.Refusal.{firstBroken};
-ghost use Rattle.graph.specs.Entry.{tableConditions, cleared, countAfter, Settled, Operated, inRange, resultOf, variableFn, valueConditions, valueAnswer};
+ghost use Rattle.graph.specs.Entry.{tableConditions, inputConditions, cleared, countAfter, Settled, Operated, inRange, resultOf, variableFn, valueConditions, valueAnswer};
 use crate::build;
 use crate::build::Made;
 use crate::operation::Op;
@@ -56,6 +56,39 @@ pub fn in_range(count: usize, x: u16) -> bool
     ensures { λ r. ⌜ r ≡ inRange count x ⌝ }
 {
     (x as usize) < count + 2
+}
+
+// Refusals 1 to 6 of the generator and of the checker: the number of the first condition of two roots and a list slice of a
+// size that is broken, or 0.
+pub fn input_refusal(
+    columns: u16,
+    level: &[u16],
+    low: &[u16],
+    high: &[u16],
+    count: usize,
+    lower: u16,
+    upper: u16,
+    size: usize,
+) -> u16
+    ensures { λ r. ⌜ r ≡ firstBroken (inputConditions columns count (now (level .entry)) (now (low .entry)) (now (high .entry)) lower upper size) ⌝ }
+{
+    let broken = table_refusal(columns, level, low, high, count);
+    if broken != 0 {
+        return broken;
+    }
+    if !in_range(count, lower) {
+        return refusal::OUT_OF_RANGE;
+    }
+    if !in_range(count, upper) {
+        return refusal::OUT_OF_RANGE;
+    }
+    if !walk::within_from(level, low, high, count, columns, 0, lower, upper) {
+        return refusal::NOT_WITHIN;
+    }
+    if 16384 < size {
+        return refusal::LIST_OVER;
+    }
+    refusal::DONE
 }
 
 // The elements from a place on become zero.

@@ -1,4 +1,5 @@
--- The meaning of a line by its fields, and what every row of a text keeps: at most 16 signs, and a well-formed cube.
+-- The meaning of a line by its fields, and what every row of a text keeps: at most 16 signs, and a well-formed cube; and what
+-- `.i` does: at most 16 columns.
 use mathlib.Core.Path.{_≡_, refl, sym, ap, ap₂, _∙_, subst}
 use mathlib.Core.Bool.{Bool, true, false, cond, _&&_}
 use mathlib.Core.List.{List, [], _∷_, map}
@@ -10,7 +11,7 @@ use lib.ListN.{length, length-map}
 use borrow.Author.Tests.{le-leb, lt-leb, leb-true}
 use Rattle.rule.specs.Number.{wellFormed, cubeNumber, signs}
 use Rattle.rule.proofs.Number.{wellFormed-cubeNumber, cubeNumber-signs}
-use Rattle.rule.proofs.Bools.{and-left}
+use Rattle.rule.proofs.Bools.{and-left, and-right}
 use Rattle.line.specs.Bytes.{is, isHash, until, words, fields}
 use Rattle.line.specs.Decimal.{number, all}
 use Rattle.line.specs.Meaning.{isSign, readSign, isCube, readCube, columnsLine, outputLine, kindLine, countLine, signedLine, rowLine, pairLine, singleLine, meaningOf, meaning}
@@ -170,14 +171,19 @@ pub cube-short : (a : List ℕ) → isCube a ≡ true → length a ≤ 16
 unfolding isCube
 cube-short a e = leb-true (length a) 16 (and-left (leb (length a) 16) (all isSign a) e)
 
--- What every row of a text keeps.
+-- What every row and every `.i` of a text keeps.
 pub record FineRow (n x : ℕ) : Type 0 where
   pub few : n ≤ 16
   pub formed : wellFormed n x ≡ true
 
+-- And its columns.
+pub record FineColumns (n : ℕ) : Type 0 where
+  pub positive : 1 ≤ n
+  pub few : n ≤ 16
+
 abbrev Fine : Line → Type 0
 Fine Empty = Unit {0}
-Fine (Columns n) = Unit {0}
+Fine (Columns n) = FineColumns n
 Fine Output = Unit {0}
 Fine (Typed t) = Unit {0}
 Fine (Count n) = Unit {0}
@@ -209,7 +215,15 @@ fine-row a b = go (isCube a) refl
 
 fine-columns : (o : Option ℕ) → Fine (columnsLine o)
 unfolding columnsLine
-fine-columns (some n) = pick (leb 1 n && leb n 16) (Columns n) Bad tt tt
+fine-columns (some n) = go (leb 1 n && leb n 16) refl
+  where
+    go : (q : Bool) → leb 1 n && leb n 16 ≡ q → Fine (cond q (Columns n) Bad)
+    go true e =
+        record {
+          positive = leb-true 1 n (and-left (leb 1 n) (leb n 16) e);
+          few = leb-true n 16 (and-right (leb 1 n) (leb n 16) e);
+        }
+    go false e = tt
 fine-columns none = tt
 
 fine-count : (o : Option ℕ) → Fine (countLine o)
@@ -236,3 +250,7 @@ fine-fields (a ∷ b ∷ d ∷ fs) = tt
 pub row-fine : (line : List ℕ) (n x : ℕ) (o : Out) → meaning line ≡ Row n x o → FineRow n x
 unfolding meaning
 row-fine line n x o e = subst Fine e (fine-fields (fields line))
+
+pub columns-fine : (line : List ℕ) (n : ℕ) → meaning line ≡ Columns n → FineColumns n
+unfolding meaning
+columns-fine line n e = subst Fine e (fine-fields (fields line))

@@ -1,57 +1,35 @@
 -- The entry of the generator: one law for each way out, from the conditions in their order.
-use mathlib.Core.Path.{_≡_, refl, sym, ap, _∙_, subst, subst⁻¹}
+use mathlib.Core.Path.{_≡_, refl, sym, ap, _∙_, subst}
 use mathlib.Core.Bool.{Bool, true, false, cond, not, _&&_}
 use mathlib.Core.List.{List, [], _∷_, _++_, map}
-use mathlib.Core.Logic.{_⊎_, inl, inr}
 use Prim.Native.Nat.{ℕ, zero, suc, _+_, _-_, _*_, _^_, _<_, _≤_}
 use native.Mathlib.Nat.{pow-le-pow-right}
 use native.Mathlib.Omega.{arith}
 use lib.Dec.{eqb, leb, ltb, eqb·suc-zero}
 use lib.ListN.{length, getD, drop, replicate, length-map, length-replicate}
 use lib.Seq.{sets, sets-eq, length-sets}
-use borrow.Author.Tests.{eqb-true, eqb-false, le-leb, lt-leb, ltb-true, lt-ltb, ne-eqb}
+use borrow.Author.Tests.{le-leb, lt-leb, lt-ltb, ne-eqb}
 use Rattle.rule.specs.Func.{within}
 use Rattle.rule.specs.Cube.{Cube}
 use Rattle.rule.specs.Number.{cubeNumber}
 use Rattle.rule.specs.Nodes.{need}
 use Rattle.rule.specs.Rule.{listOf, listNumbers}
-use Rattle.rule.specs.Refusal.{Condition, firstBroken, outOfRange, notWithin, listOver, nodesLack, listLacks}
-use Rattle.rule.proofs.Bools.{and-left, and-right, and-intro, which}
+use Rattle.rule.specs.Refusal.{Condition, firstBroken, nodesLack, listLacks}
+use Rattle.rule.proofs.Bools.{and-intro}
 use Rattle.graph.specs.Table.{tableOf, fnOf, functions, Agree}
 use Rattle.graph.specs.Sound.{Sound, RootedTwice}
-use Rattle.graph.specs.Entry.{tableConditions, inRange, cleared}
-use Rattle.graph.proofs.Refusals.{broken-here, kept-next, none-broken, first-kept, others-kept, broken-before, kept-before, unbroken-sound}
-use Rattle.graph.proofs.Entries.{root-in-range, both-in, first-out, second-out}
+use Rattle.graph.specs.Entry.{inputConditions, cleared}
+use Rattle.graph.proofs.Refusals.{broken-here, kept-next, none-broken, broken-before}
+use Rattle.graph.proofs.Roots.{input-below, past-input, input-sound, input-inside, input-roots}
 use Rattle.graph.proofs.Clearing.{cleared-alike}
 use Rattle.graph.proofs.Records.{functions-length}
 use Rattle.list.specs.Generating.{numbersUnder, Listable, ListedDone, ListedFull, ListedOf}
-use Rattle.list.specs.Entry.{numbersOf, numbersFor, lower, upper, theList, inputConditions, roomConditions, refusal, answerFor, changesNothing, tableLeft, roomLeft, Generates}
+use Rattle.list.specs.Entry.{numbersOf, numbersFor, lower, upper, theList, roomConditions, refusal, answerFor, changesNothing, tableLeft, roomLeft, Generates}
 use Rattle.list.specs.declared.generator.Listed.{Listed}
 use Rattle.list.specs.declared.generator.Listed.the-variants as listed
 use Rattle.list.specs.declared.entry.Generated.{Generated}
 use Rattle.list.specs.declared.entry.Generated.the-variants.{Done, Refused}
 use Rattle.list.proofs.Listing.{ListPromise}
-
--- Every number of some conditions is below a bound, and so is that of the first broken one.
-abbrev allBelow : ℕ → List Condition → Bool
-allBelow b [] = true
-allBelow b (c ∷ cs) = ltb (c .number) b && allBelow b cs
-
-broken-below : (b : ℕ) → 0 < b → (cs : List Condition) → allBelow b cs ≡ true → firstBroken cs < b
-broken-below b z [] u = subst⁻¹ (λ x. x < b) none-broken z
-broken-below b z (c ∷ cs) u = go (which (c .kept)) (broken-below b z cs (and-right (ltb (c .number) b) (allBelow b cs) u))
-  where
-    go : (c .kept ≡ true) ⊎ (c .kept ≡ false) → firstBroken cs < b → firstBroken (c ∷ cs) < b
-    go (inl t) ih = subst⁻¹ (λ x. x < b) (kept-next c cs t) ih
-    go (inr f) ih = subst⁻¹ (λ x. x < b) (broken-here c cs f) (ltb-true (c .number) b (and-left (ltb (c .number) b) (allBelow b cs) u))
-
--- Where conditions and others after them are all kept, they are.
-pub before-kept : (cs : List Condition) (ds : List Condition) → firstBroken (cs ++ ds) ≡ 0 → firstBroken cs ≡ 0
-before-kept cs ds e = go (which (eqb (firstBroken cs) 0))
-  where
-    go : (eqb (firstBroken cs) 0 ≡ true) ⊎ (eqb (firstBroken cs) 0 ≡ false) → firstBroken cs ≡ 0
-    go (inl t) = eqb-true (firstBroken cs) 0 t
-    go (inr f) = let d = eqb-false (firstBroken cs) 0 f in sym (broken-before cs ds (firstBroken cs) d refl) ∙ e
 
 -- A room of zeros, with a list stored from its start.
 drop-zeros : (i : ℕ) (k : ℕ) → drop i (replicate {A = ℕ} k 0) ≡ replicate (k - i) 0
@@ -70,70 +48,35 @@ pub cleared-whole : (s : List ℕ) → cleared 0 s ≡ replicate (length s) 0
 unfolding cleared
 cleared-whole s = let e : length s - 0 ≡ length s = omega arith in ap (λ j. replicate j 0) e
 
+-- Of two the first, where the test says so.
+first-chosen : (t : Bool) (x : List ℕ) (y : List ℕ) → t ≡ true → x ≡ cond t x y
+first-chosen t x y e = ap (λ b. cond b x y) (sym e)
+
 -- Cubes with nothing chosen before them have their own numbers.
 own-numbers : (cs : List Cube) → numbersUnder 0 1 cs ≡ map cubeNumber cs
 unfolding numbersUnder
 own-numbers [] = refl
 own-numbers (x ∷ cs) = λ i. (let e : 0 + 1 * cubeNumber x ≡ cubeNumber x = omega arith in e) i ∷ own-numbers cs i
 
+-- What the generator asks is what a good input has.
+pub generate-asks : (n : ℕ) (c : ℕ) (v : List ℕ) (l : List ℕ) (h : List ℕ) (a : ℕ) (b : ℕ) (size : ℕ) → firstBroken (inputConditions n c v l h a b size) ≡ 0 → Listable n c v l h 0 0 1 0 a b
+generate-asks n c v l h a b size good =
+    record {
+      roots = input-roots n c v l h a b size good;
+      inside = λ m s. subst (λ j. within j (fnOf (tableOf v l h) 0 j a) (fnOf (tableOf v l h) 0 j b) ≡ true) (omega arith) (input-inside n c v l h a b size good);
+      weight = refl;
+      literals = omega arith;
+      place =
+          let u : 3 ^ (n - 0) ≤ 3 ^ 16 = pow-le-pow-right {n = 3} (omega arith) {i = n - 0} {j = 16} (omega (arith, input-sound n c v l h a b size good .columns)) in
+          omega arith;
+    }
+
 module _ (n : ℕ) (c : ℕ) (v : List ℕ) (l : List ℕ) (h : List ℕ) (a : ℕ) (b : ℕ) (room : List ℕ) where
-  abbrev rangeKept : Condition
-  rangeKept = record { number = outOfRange; kept = inRange c a && inRange c b }
-
-  abbrev insideKept : Condition
-  insideKept = record { number = notWithin; kept = within n (lower n c v l h a b room) (upper n c v l h a b room) }
-
-  abbrev sizeKept : Condition
-  sizeKept = record { number = listOver; kept = leb (length room) 16384 }
-
   abbrev needKept : Condition
   needKept = record { number = nodesLack; kept = leb (need (functions n (tableOf v l h) c) n (lower n c v l h a b room) (upper n c v l h a b room)) (length v) }
 
   abbrev listKept : Condition
   listKept = record { number = listLacks; kept = leb (length (theList n c v l h a b room)) (length room) }
-
-  -- The first broken condition of the input.
-  pub bad-table : (r : ℕ) → r ≡ firstBroken (tableConditions n c v l h) → (r ≡ 0 → ⊥) → r ≡ firstBroken (inputConditions n c v l h a b room)
-  unfolding inputConditions
-  bad-table r e z = sym (broken-before (tableConditions n c v l h) (rangeKept ∷ insideKept ∷ sizeKept ∷ []) r z (sym e))
-
-  module _ (r : ℕ) (e : r ≡ firstBroken (tableConditions n c v l h)) (z : r ≡ 0) where
-    past-table : firstBroken (inputConditions n c v l h a b room) ≡ firstBroken (rangeKept ∷ insideKept ∷ sizeKept ∷ [])
-    unfolding inputConditions tableConditions
-    past-table = kept-before (tableConditions n c v l h) (rangeKept ∷ insideKept ∷ sizeKept ∷ []) refl (sym e ∙ z)
-
-    pub lower-out : inRange c a ≡ false → outOfRange ≡ firstBroken (inputConditions n c v l h a b room)
-    lower-out f = sym (past-table ∙ broken-here rangeKept (insideKept ∷ sizeKept ∷ []) (first-out c a b f))
-
-    pub upper-out : inRange c b ≡ false → outOfRange ≡ firstBroken (inputConditions n c v l h a b room)
-    upper-out f = sym (past-table ∙ broken-here rangeKept (insideKept ∷ sizeKept ∷ []) (second-out c a b f))
-
-    module _ (ra : inRange c a ≡ true) (rb : inRange c b ≡ true) where
-      pub within-roots : RootedTwice n c v l h 0 a b
-      within-roots =
-          let s = unbroken-sound n c v l h r e z in
-          record { sound = s; column = omega arith; first = root-in-range n c v l h a s ra .number; second = root-in-range n c v l h b s rb .number }
-
-      past-range : firstBroken (inputConditions n c v l h a b room) ≡ firstBroken (insideKept ∷ sizeKept ∷ [])
-      past-range = past-table ∙ kept-next rangeKept (insideKept ∷ sizeKept ∷ []) (both-in c a b ra rb)
-
-      -- What the walk says of the roots is what the condition asks.
-      inside-is : (t : Bool) → ((m : ℕ) → 0 + m ≡ n → t ≡ within m (fnOf (tableOf v l h) 0 m a) (fnOf (tableOf v l h) 0 m b)) → insideKept .kept ≡ t
-      unfolding lower upper
-      inside-is t q = sym (q n (omega arith))
-
-      pub not-inside : (t : Bool) → ((m : ℕ) → 0 + m ≡ n → t ≡ within m (fnOf (tableOf v l h) 0 m a) (fnOf (tableOf v l h) 0 m b)) → t ≡ false → notWithin ≡ firstBroken (inputConditions n c v l h a b room)
-      not-inside t q f = sym (past-range ∙ broken-here insideKept (sizeKept ∷ []) (inside-is t q ∙ f))
-
-      module _ (t : Bool) (q : (m : ℕ) → 0 + m ≡ n → t ≡ within m (fnOf (tableOf v l h) 0 m a) (fnOf (tableOf v l h) 0 m b)) (i : t ≡ true) where
-        past-inside : firstBroken (inputConditions n c v l h a b room) ≡ firstBroken (sizeKept ∷ [])
-        past-inside = past-range ∙ kept-next insideKept (sizeKept ∷ []) (inside-is t q ∙ i)
-
-        pub room-over : 16384 < length room → listOver ≡ firstBroken (inputConditions n c v l h a b room)
-        room-over u = sym (past-inside ∙ broken-here sizeKept [] (lt-leb (length room) 16384 u))
-
-        pub input-kept : length room ≤ 16384 → 0 ≡ firstBroken (inputConditions n c v l h a b room)
-        input-kept u = sym (past-inside ∙ kept-next sizeKept [] (le-leb (length room) 16384 u) ∙ none-broken)
 
   -- The answer for a refusal has its numbers.
   answer-numbers : (q : ℕ) → numbersOf (answerFor n c v l h a b room q) ≡ numbersFor n c v l h a b room q
@@ -167,14 +110,13 @@ module _ (n : ℕ) (c : ℕ) (v : List ℕ) (l : List ℕ) (h : List ℕ) (a : �
   returns-none (suc q) y d = ap (λ t. Refused (suc q) (cond t (length (theList n c v l h a b room)) 0)) (sym (ne-eqb (suc q) listLacks d))
 
   -- A broken condition of the input is the answer, and nothing is changed.
-  module _ (r : ℕ) (e : r ≡ firstBroken (inputConditions n c v l h a b room)) (z : r ≡ 0 → ⊥) where
+  module _ (r : ℕ) (e : r ≡ firstBroken (inputConditions n c v l h a b (length room))) (z : r ≡ 0 → ⊥) where
     refusal-is : refusal n c v l h a b room ≡ r
     unfolding refusal
-    refusal-is = broken-before (inputConditions n c v l h a b room) (roomConditions n c v l h a b room) r z (sym e)
+    refusal-is = broken-before (inputConditions n c v l h a b (length room)) (roomConditions n c v l h a b room) r z (sym e)
 
     below-7 : r < nodesLack
-    unfolding inputConditions tableConditions
-    below-7 = subst⁻¹ (λ x. x < nodesLack) e (broken-below nodesLack (omega arith) (inputConditions n c v l h a b room) refl)
+    below-7 = omega (arith, e, input-below n c v l h a b (length room))
 
     nothing-changed : changesNothing n c v l h a b room r ≡ true
     unfolding changesNothing
@@ -188,57 +130,27 @@ module _ (n : ℕ) (c : ℕ) (v : List ℕ) (l : List ℕ) (h : List ℕ) (a : �
     unfolding roomLeft
     input-refused =
         generates-at r refusal-is v l h room (Refused r 0) (returns-none r z (λ q. omega (arith, below-7))) (unchanged v) (unchanged l) (unchanged h)
-        (ap (λ t. cond t room (cond (eqb r 0) (theList n c v l h a b room ++ replicate (length room - length (theList n c v l h a b room)) 0) (replicate (length room) 0))) (sym nothing-changed))
+        (first-chosen _ room _ nothing-changed)
 
   -- The input is good.
-  module _ (r : ℕ) (e : r ≡ firstBroken (inputConditions n c v l h a b room)) (z : r ≡ 0) where
-    all-kept : firstBroken (inputConditions n c v l h a b room) ≡ 0
+  module _ (r : ℕ) (e : r ≡ firstBroken (inputConditions n c v l h a b (length room))) (z : r ≡ 0) where
+    all-kept : firstBroken (inputConditions n c v l h a b (length room)) ≡ 0
     all-kept = sym e ∙ z
 
-    tables-kept : firstBroken (tableConditions n c v l h) ≡ 0
-    unfolding inputConditions
-    tables-kept = before-kept (tableConditions n c v l h) (rangeKept ∷ insideKept ∷ sizeKept ∷ []) all-kept
-
     pub table-good : Sound n c v l h
-    table-good = unbroken-sound n c v l h (firstBroken (tableConditions n c v l h)) refl tables-kept
-
-    rest-kept : firstBroken (rangeKept ∷ insideKept ∷ sizeKept ∷ []) ≡ 0
-    unfolding inputConditions tableConditions
-    rest-kept = sym (kept-before (tableConditions n c v l h) (rangeKept ∷ insideKept ∷ sizeKept ∷ []) refl tables-kept) ∙ all-kept
-
-    ranges-kept : (inRange c a && inRange c b) ≡ true
-    ranges-kept = first-kept rangeKept (insideKept ∷ sizeKept ∷ []) (λ q. omega arith) rest-kept
+    table-good = input-sound n c v l h a b (length room) all-kept
 
     pub inside-kept : within n (lower n c v l h a b room) (upper n c v l h a b room) ≡ true
-    inside-kept = first-kept insideKept (sizeKept ∷ []) (λ q. omega arith) (others-kept rangeKept (insideKept ∷ sizeKept ∷ []) (λ q. omega arith) rest-kept)
+    unfolding lower upper
+    inside-kept = input-inside n c v l h a b (length room) all-kept
 
     pub roots : RootedTwice n c v l h 0 a b
-    roots =
-        record {
-          sound = table-good;
-          column = omega arith;
-          first = root-in-range n c v l h a table-good (and-left (inRange c a) (inRange c b) ranges-kept) .number;
-          second = root-in-range n c v l h b table-good (and-right (inRange c a) (inRange c b) ranges-kept) .number;
-        }
-
-    -- What the generator asks.
-    pub generate-asks : Listable n c v l h 0 0 1 0 a b
-    unfolding lower upper
-    generate-asks =
-        record {
-          roots = roots;
-          inside = λ m s. subst (λ j. within j (fnOf (tableOf v l h) 0 j a) (fnOf (tableOf v l h) 0 j b) ≡ true) (omega arith) inside-kept;
-          weight = refl;
-          literals = omega arith;
-          place =
-              let u : 3 ^ (n - 0) ≤ 3 ^ 16 = pow-le-pow-right {n = 3} (omega arith) {i = n - 0} {j = 16} (omega (arith, table-good .columns)) in
-              omega arith;
-        }
+    roots = input-roots n c v l h a b (length room) all-kept
 
     -- The conditions of the rooms decide.
     by-rooms : refusal n c v l h a b room ≡ firstBroken (needKept ∷ listKept ∷ [])
-    unfolding refusal inputConditions tableConditions roomConditions
-    by-rooms = kept-before (inputConditions n c v l h a b room) (needKept ∷ listKept ∷ []) refl all-kept
+    unfolding refusal roomConditions
+    by-rooms = past-input n c v l h a b (length room) (needKept ∷ listKept ∷ []) all-kept
 
     -- The records in use are as they were, and the others are cleared.
     given-back : (q : ℕ) → changesNothing n c v l h a b room q ≡ false → (s : List ℕ) (s₁ : List ℕ) (s′ : List ℕ) → s′ ≡ cleared c s₁ → length s₁ ≡ length s → ((j : ℕ) → j < c → getD s₁ j 0 ≡ getD s j 0) → s′ ≡ tableLeft n c v l h a b room q s

@@ -8,3 +8,4 @@ pub mod Lists
 pub mod Generated
 pub mod Entering
 pub mod Delivered
+pub mod Accepted

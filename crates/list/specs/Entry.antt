@@ -5,12 +5,12 @@ use mathlib.Core.List.{List, [], _∷_, _++_}
 use Prim.Native.Nat.{ℕ, zero, suc, _-_}
 use lib.Dec.{eqb, leb, ltb}
 use lib.ListN.{length, replicate}
-use Rattle.rule.specs.Func.{Fn, within}
+use Rattle.rule.specs.Func.{Fn}
 use Rattle.rule.specs.Nodes.{need}
 use Rattle.rule.specs.Rule.{listNumbers}
-use Rattle.rule.specs.Refusal.{Condition, firstBroken, outOfRange, notWithin, listOver, nodesLack, listLacks}
+use Rattle.rule.specs.Refusal.{Condition, firstBroken, nodesLack, listLacks}
 use Rattle.graph.specs.Table.{tableOf, fnOf, functions}
-use Rattle.graph.specs.Entry.{tableConditions, inRange, cleared}
+use Rattle.graph.specs.Entry.{inputConditions, cleared}
 use Rattle.list.specs.declared.entry.Generated.{Generated}
 use Rattle.list.specs.declared.entry.Generated.the-variants.{Done, Refused}
 
@@ -36,24 +36,15 @@ module _ (n : ℕ) (c : ℕ) (v : List ℕ) (l : List ℕ) (h : List ℕ) (a : �
   unfoldable pub theList : List ℕ
   theList = listNumbers n lower upper
 
-  -- What is asked of the input: the table's conditions; 4, both roots are in range; 5, L lies within U; 6, the list room
-  -- is at most 16,384.
-  unfoldable pub inputConditions : List Condition
-  inputConditions =
-      tableConditions n c v l h ++
-      (record { number = outOfRange; kept = inRange c a && inRange c b } ∷
-      record { number = notWithin; kept = within n lower upper } ∷
-      record { number = listOver; kept = leb (length room) 16384 } ∷ [])
-
-  -- And of the rooms: 7, the node need is at most the table's length; 8, the list is no longer than its room.
+  -- What is asked of the rooms: 7, the node need is at most the table's length; 8, the list is no longer than its room.
   unfoldable pub roomConditions : List Condition
   roomConditions =
       record { number = nodesLack; kept = leb (need (functions n (tableOf v l h) c) n lower upper) (length v) } ∷
       record { number = listLacks; kept = leb (length theList) (length room) } ∷ []
 
-  -- The number of the first broken condition, or 0.
+  -- The number of the first broken condition, or 0: those of the input, then those of the rooms.
   unfoldable pub refusal : ℕ
-  refusal = firstBroken (inputConditions ++ roomConditions)
+  refusal = firstBroken (inputConditions n c v l h a b (length room) ++ roomConditions)
 
   -- The answer: number 8 returns the length needed, any other 0; done gives the length of the list.
   unfoldable pub answerFor : ℕ → Generated

@@ -2,50 +2,16 @@
 ghost use mathlib.Core.Path.{_≡_};
 ghost use Prim.Native.Nat.{ℕ};
 ghost use lib.ListN.{length, replicate};
-ghost use Rattle.rule.specs.Refusal.{firstBroken};
-ghost use Rattle.list.specs.Entry.{inputConditions, Generates};
+ghost use Rattle.list.specs.Entry.{Generates};
 use crate::generator;
 use crate::generator::Listed;
 use graph::entry;
-use graph::walk;
 use rule::refusal;
 
 // The length of the list that stands in the room, or a refusal's number with what it returns.
 pub enum Generated {
     Done(usize),
     Refused(u16, usize),
-}
-
-// Refusals 1 to 6: the number of the first condition of the input that is broken, or 0.
-fn input_refusal(
-    columns: u16,
-    level: &[u16],
-    low: &[u16],
-    high: &[u16],
-    count: usize,
-    lower: u16,
-    upper: u16,
-    room: &[u32],
-) -> u16
-    ensures { λ r. ⌜ r ≡ firstBroken (inputConditions columns count (now (level .entry)) (now (low .entry)) (now (high .entry)) lower upper (now (room .entry))) ⌝ }
-{
-    let broken = entry::table_refusal(columns, level, low, high, count);
-    if broken != 0 {
-        return broken;
-    }
-    if !entry::in_range(count, lower) {
-        return refusal::OUT_OF_RANGE;
-    }
-    if !entry::in_range(count, upper) {
-        return refusal::OUT_OF_RANGE;
-    }
-    if !walk::within_from(level, low, high, count, columns, 0, lower, upper) {
-        return refusal::NOT_WITHIN;
-    }
-    if 16384 < room.len() {
-        return refusal::LIST_OVER;
-    }
-    refusal::DONE
 }
 
 // The whole list room becomes zero.
@@ -72,7 +38,8 @@ pub fn generate(
 ) -> Generated
     ensures { λ r. ⌜ Generates columns count (now (level .entry)) (now (low .entry)) (now (high .entry)) lower upper (now (room .entry)) (now (level .exit)) (now (low .exit)) (now (high .exit)) (now (room .exit)) r ⌝ }
 {
-    let broken = input_refusal(columns, level, low, high, count, lower, upper, room);
+    let size = room.len();
+    let broken = entry::input_refusal(columns, level, low, high, count, lower, upper, size);
     if broken != 0 {
         return Generated::Refused(broken, 0);
     }

@@ -9,8 +9,8 @@ use native.Mathlib.Omega.{arith}
 use lib.Dec.{leb}
 use lib.ListN.{length, take, drop, replicate}
 use borrow.Author.Tests.{leb-true, leb-false}
-use Rattle.graph.specs.Entry.{tableConditions, cleared}
-use Rattle.list.specs.Entry.{inputConditions, refusal, answerFor, numbersFor, numbersOf, changesNothing, tableLeft, roomLeft, Generates}
+use Rattle.graph.specs.Entry.{tableConditions, inputConditions, cleared}
+use Rattle.list.specs.Entry.{refusal, answerFor, numbersFor, numbersOf, changesNothing, tableLeft, roomLeft, Generates}
 use Rattle.list.specs.declared.entry.Generated.{Generated}
 use Rattle.list.specs.declared.entry.Generated.the-variants.{Refused}
 use Rattle.nodes.specs.Row.{levels, lows, highs, clearedRow, zeroNode, over, overRefusal}

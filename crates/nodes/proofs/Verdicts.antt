@@ -8,8 +8,8 @@ use native.Mathlib.Omega.{arith}
 use lib.Dec.{leb}
 use lib.ListN.{length, take, replicate}
 use borrow.Author.Tests.{leb-true, leb-false}
-use Rattle.graph.specs.Entry.{tableConditions}
-use Rattle.checker.specs.Entry.{inputConditions, answerFor, refusal}
+use Rattle.graph.specs.Entry.{tableConditions, inputConditions}
+use Rattle.checker.specs.Entry.{answerFor, refusal}
 use Rattle.checker.specs.declared.judged.Judged.{Judged}
 use Rattle.checker.specs.declared.judged.Judged.the-variants.{Refused}
 use Rattle.nodes.specs.Row.{levels, lows, highs, zeroNode, over, overRefusal}

@@ -9,9 +9,8 @@ use lib.Dec.{eqb}
 use lib.ListN.{length, drop, drop-of-length-le}
 use borrow.Author.Tests.{eq-eqb, ne-eqb}
 use Rattle.rule.specs.Rows as Rows
-use Rattle.line.specs.Bytes.{isNewline, until, split, lines}
+use Rattle.line.specs.Bytes.{split, lines}
 use Rattle.line.specs.Meaning.{meaning, kindOf, rowOf}
-use Rattle.line.proofs.Fields.{lines-unroll}
 use Rattle.line.specs.declared.meaning.Kind.{Kind}
 use Rattle.line.specs.declared.meaning.Kind.the-variants.{F, Fd, Fr}
 use Rattle.line.specs.declared.meaning.Out.{Out}
@@ -24,6 +23,8 @@ use Rattle.text.specs.declared.judge.State.{State}
 use Rattle.text.specs.declared.judge.Step.{Step}
 use Rattle.text.specs.declared.judge.Step.the-variants.{On, Fault, Ended}
 use Rattle.text.specs.declared.judge.Judged.{Judged}
+use Rattle.text.specs.declared.reader.Taken.{Taken}
+use Rattle.text.proofs.Places.{Took}
 use Rattle.text.specs.declared.judge.Judged.the-variants.{Good, Faulty}
 
 -- What each kind of line does.
@@ -201,17 +202,18 @@ module _ (asked : ℕ) (text : List ℕ) (s : State) (at k : ℕ) where
   unfolding lines split run
   text-over h = ap (λ t. run asked s k (lines t)) (drop-of-length-le text h)
 
-  module _ (h : at < length text) (line : List ℕ) (l : line ≡ until isNewline (drop at text))
-      (told : Line) (m : told ≡ meaning line) (done : Step) (d : done ≡ step asked s told) where
+  module _ (w : Taken) (t : Took text at w) (done : Step) (d : done ≡ step asked s (w .line)) where
+    told : Line
+    told = w .line
+
     more : List (List ℕ)
-    more = lines (drop (at + length line + 1) text)
+    more = lines (drop (w .next) text)
 
     unrolled : run asked s k (lines (drop at text)) ≡ follow done k (finish s k) (λ s′. run asked s′ (k + 1) more) told
-    unfolding run more
+    unfolding run more told
     unrolled =
-        ap (run asked s k) (lines-unroll text at h) ∙
-        ap (λ u. run asked s k (u ∷ lines (drop (at + length u + 1) text))) (sym l) ∙
-        ap (λ t. follow (step asked s t) k (finish s k) (λ s′. run asked s′ (k + 1) more) t) (sym m) ∙
+        ap (run asked s k) (t .unrolls) ∙
+        ap (λ l. follow (step asked s l) k (finish s k) (λ s′. run asked s′ (k + 1) more) l) (sym (t .means)) ∙
         ap (λ t. follow t k (finish s k) (λ s′. run asked s′ (k + 1) more) told) (sym d)
 
     pub line-faulty : done ≡ Fault → run asked s k (lines (drop at text)) ≡ fault k
@@ -223,12 +225,13 @@ module _ (asked : ℕ) (text : List ℕ) (s : State) (at k : ℕ) where
     line-ending e = unrolled ∙ ap (λ t. follow t k (finish s k) (λ s′. run asked s′ (k + 1) more) told) e
 
     module _ (s′ : State) (e : done ≡ On s′) where
-      pub line-on : judgedPlus (s′ .rows) (run asked s′ (k + 1) (lines (drop (at + length line + 1) text)))
+      pub line-on : judgedPlus (s′ .rows) (run asked s′ (k + 1) (lines (drop (w .next) text)))
           ≡ judgedPlus (s .rows) (run asked s k (lines (drop at text)))
-      unfolding follow more
+      unfolding follow more told
       line-on =
           sym (ap (judgedPlus (s .rows)) (unrolled ∙ ap (λ t. follow t k (finish s k) (λ u. run asked u (k + 1) more) told) e) ∙
           counts asked s told s′ (sym d ∙ e) .rows (run asked s′ (k + 1) more))
 
       pub few-rows : s′ .rows ≤ s .rows + 1
+      unfolding told
       few-rows = counts asked s told s′ (sym d ∙ e) .few

@@ -1,38 +1,38 @@
 -- Reading a candidate: the second pass takes the rows of a good text, one line at a time; and the answer, test by test.
 use mathlib.Core.Path.{_≡_, refl, sym, ap, ap₂, _∙_, subst}
-use mathlib.Core.Bool.{Bool, true, false, cond, _&&_, _||_, false≢true, true≢false}
-use mathlib.Core.List.{List, [], _∷_, _++_, map}
+use mathlib.Core.Bool.{Bool, true, false, cond, _&&_, _||_, false≢true}
+use mathlib.Core.List.{List, [], _∷_, _++_}
 use Prim.Native.Nat.{ℕ, zero, suc, _+_, _<_, _≤_}
 use native.Mathlib.Nat.{zero-add}
 use native.Mathlib.Omega.{arith}
-use lib.Dec.{eqb, leb}
+use lib.Dec.{eqb, leb, eqb·suc-zero}
 use lib.ListN.{length, drop, set, length-map, drop-of-length-le}
 use lib.Seq.{sets}
 use borrow.Author.Tests.{le-leb, lt-leb, eq-eqb, ne-eqb, leb-true}
 use Rattle.rule.specs.Number.{cubeNumber, signs}
-use Rattle.rule.specs.Refusal.{Condition, firstBroken}
+use Rattle.rule.specs.Refusal.{firstBroken}
 use Rattle.rule.specs.Rows as Rows
 use Rattle.rule.proofs.Number.{cubeNumber-signs}
-use Rattle.rule.proofs.Bools.{clash}
-use Rattle.line.specs.Bytes.{isNewline, until, split, lines}
+use Rattle.line.specs.Bytes.{split, lines}
 use Rattle.line.specs.Meaning.{meaning, isEnd, kindOf, rowOf}
-use Rattle.line.proofs.Fields.{lines-unroll}
 use Rattle.line.proofs.Lines.{row-fine}
 use Rattle.line.specs.declared.meaning.Kind.{Kind}
 use Rattle.line.specs.declared.meaning.Out.{Out}
 use Rattle.line.specs.declared.meaning.Line.{Line}
 use Rattle.line.specs.declared.meaning.Line.the-variants.{Empty, Columns, Output, Typed, Count, Row, End, Bad}
 use Rattle.text.specs.Outcome.{Outcome, good, fault, legal, step, complete, finish, putRow, addRow, follow, run, start, outcome}
-use Rattle.text.specs.Judged.{kindFor, judgedPlus, judged}
+use Rattle.text.specs.Judged.{judgedPlus, judged}
 use Rattle.text.specs.Room.{cleared, padded, Put}
-use Rattle.text.specs.Candidate.{isGood, faultLine, cubesOf, readConditions, readReturns, readBy, readAnswer, listBy, listRead, rowNumber, rowNumbers}
+use Rattle.text.specs.Candidate.{isGood, faultLine, cubesOf, readConditions, readReturns, readBy, readAnswer, readNumbers, numbersFor, listBy, listRead, Read, rowNumber, rowNumbers}
 use Rattle.text.specs.declared.judge.State.{State}
 use Rattle.text.specs.declared.judge.Step.{Step}
 use Rattle.text.specs.declared.judge.Step.the-variants.{On, Fault, Ended}
 use Rattle.text.specs.declared.judge.Judged.{Judged}
 use Rattle.text.specs.declared.judge.Judged.the-variants.{Good, Faulty}
+use Rattle.text.specs.declared.reader.Taken.{Taken}
 use Rattle.text.specs.declared.candidate.Candidate.{Candidate}
 use Rattle.text.specs.declared.candidate.Candidate.the-variants.{Done, Refused}
+use Rattle.text.proofs.Places.{Took}
 
 -- A row's cube is put, and other lines put nothing.
 module _ (room : List ℕ) (i : ℕ) (l : Line) where
@@ -48,21 +48,19 @@ module _ (text : List ℕ) (at : ℕ) where
   unfolding lines split rowNumbers
   rows-over h = ap (λ t. rowNumbers (lines t)) (drop-of-length-le text h)
 
-  module _ (h : at < length text) (line : List ℕ) (l : line ≡ until isNewline (drop at text))
-      (told : Line) (m : told ≡ meaning line) where
+  module _ (w : Taken) (t : Took text at w) where
     unrolled : rowNumbers (lines (drop at text))
-        ≡ cond (isEnd told) [] (rowNumber told ++ rowNumbers (lines (drop (at + length line + 1) text)))
+        ≡ cond (isEnd (w .line)) [] (rowNumber (w .line) ++ rowNumbers (lines (drop (w .next) text)))
     unfolding rowNumbers
     unrolled =
-        ap rowNumbers (lines-unroll text at h) ∙
-        ap (λ u. rowNumbers (u ∷ lines (drop (at + length u + 1) text))) (sym l) ∙
-        ap (λ t. cond (isEnd t) [] (rowNumber t ++ rowNumbers (lines (drop (at + length line + 1) text)))) (sym m)
+        ap rowNumbers (t .unrolls) ∙
+        ap (λ l. cond (isEnd l) [] (rowNumber l ++ rowNumbers (lines (drop (w .next) text)))) (sym (t .means))
 
-    pub rows-end : isEnd told ≡ true → rowNumbers (lines (drop at text)) ≡ []
+    pub rows-end : isEnd (w .line) ≡ true → rowNumbers (lines (drop at text)) ≡ []
     rows-end e = unrolled ∙ rw e
 
-    pub rows-on : isEnd told ≡ false
-        → rowNumbers (lines (drop at text)) ≡ rowNumber told ++ rowNumbers (lines (drop (at + length line + 1) text))
+    pub rows-on : isEnd (w .line) ≡ false
+        → rowNumbers (lines (drop at text)) ≡ rowNumber (w .line) ++ rowNumbers (lines (drop (w .next) text))
     rows-on e = unrolled ∙ rw e
 
 -- The rows of a good text are those of the second pass.
@@ -74,7 +72,7 @@ unfolding legal
 legal-goes true t e = let x : _≡_ {A = ℕ} 0 1 = cc in absurd-step e x
 legal-goes false t e = let x : _≡_ {A = ℕ} 0 1 = cc in absurd-step e x
 
-ended-is-end : (asked : ℕ) (s : State) (l : Line) → step asked s l ≡ Ended → isEnd l ≡ true
+pub ended-is-end : (asked : ℕ) (s : State) (l : Line) → step asked s l ≡ Ended → isEnd l ≡ true
 unfolding step isEnd
 ended-is-end asked s Empty e = let x : _≡_ {A = ℕ} 0 1 = cc in absurd-step e x
 ended-is-end asked s (Columns n) e = legal-goes _ _ e
@@ -85,7 +83,7 @@ ended-is-end asked s (Row n x o) e = legal-goes _ _ e
 ended-is-end asked s End e = refl
 ended-is-end asked s Bad e = let x : _≡_ {A = ℕ} 0 1 = cc in absurd-step e x
 
-on-is-not-end : (asked : ℕ) (s s′ : State) (l : Line) → step asked s l ≡ On s′ → isEnd l ≡ false
+pub on-is-not-end : (asked : ℕ) (s s′ : State) (l : Line) → step asked s l ≡ On s′ → isEnd l ≡ false
 unfolding step isEnd
 on-is-not-end asked s s′ Empty e = refl
 on-is-not-end asked s s′ (Columns n) e = refl
@@ -146,7 +144,7 @@ good-rows asked s k (l ∷ ls) g =
     go Ended e f h = finished s k ∙ rw (ended-is-end asked s (meaning l) e)
 
 -- What a text's shape says of its outcome.
-faulty-outcome : (w : Outcome) (k : ℕ) → Faulty k ≡ judged w → w ≡ fault k
+pub faulty-outcome : (w : Outcome) (k : ℕ) → Faulty k ≡ judged w → w ≡ fault k
 unfolding judged judgedPlus
 faulty-outcome (good n t rs) k e = let x : _≡_ {A = ℕ} 0 1 = cc in let y : ⊥ = omega arith in absurd y
 faulty-outcome (fault j) k e = let f : k ≡ j = cc in ap fault (sym f)
@@ -272,3 +270,24 @@ module _ (n : ℕ) (text : List ℕ) (room : List ℕ) where
 
     pub kept-by-others : (a ≡ 11 → ⊥) → (a ≡ 8 → ⊥) → room ≡ listRead n text room
     kept-by-others g h = sym (refused-by ∙ rw (ne-eqb a 11 g) (rw (ne-eqb a 8 h)))
+
+-- The answer has the numbers of its refusal.
+answer-numbers : (w : Outcome) (r : ℕ) → readNumbers (readBy r w) ≡ numbersFor r w
+unfolding readNumbers numbersFor readBy readReturns
+answer-numbers w zero = refl
+answer-numbers w (suc r) =
+    λ i.
+    record {
+      refusal = suc r;
+      returned = readReturns w (suc r);
+      rows = cond (sym (eqb·suc-zero r) i) (length (cubesOf w)) 0;
+    }
+
+pub has-taken : (n : ℕ) (text : List ℕ) (room : List ℕ) (room′ : List ℕ) (w : Candidate) → w ≡ readAnswer n text (length room) → room′ ≡ listRead n text room → Read n text room room′ w
+unfolding readAnswer
+has-taken n text room room′ w e f =
+    record {
+      answer = e;
+      numbers = ap readNumbers e ∙ answer-numbers (outcome n text) (firstBroken (readConditions n text (length room)));
+      left = f;
+    }

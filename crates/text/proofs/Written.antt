@@ -6,21 +6,20 @@ use Prim.Native.Nat.{ℕ, zero, suc, _+_, _*_, _-_, _/_, _%_, _<_, _≤_}
 use native.Mathlib.Nat.{mul-le-mul}
 use native.Mathlib.Numerals.{add-one}
 use native.Mathlib.Omega.{arith}
-use lib.Dec.{eqb, leb}
+use lib.Dec.{eqb, leb, eqb·suc-zero}
 use lib.ListN.{length, getD, drop, set, length-append, length-map, drop-of-length-le}
 use lib.Seq.{sets, drop-cons}
-use borrow.Author.Tests.{lt-ltb, le-ltb, le-leb, lt-leb, eq-eqb, ne-eqb, leb-true, eqb-true}
+use borrow.Author.Tests.{le-leb, lt-leb, eq-eqb, ne-eqb, leb-true}
 use Rattle.rule.specs.Point.{odd}
-use Rattle.rule.specs.Cube.{Sign, sign0, sign1, dash}
 use Rattle.rule.specs.Number.{signOf, signsFrom, signs, wellFormed}
-use Rattle.rule.specs.Refusal.{Condition, firstBroken}
+use Rattle.rule.specs.Refusal.{firstBroken}
 use Rattle.rule.proofs.Number.{length-signs}
 use Rattle.rule.proofs.Bools.{and-right}
 use Rattle.line.specs.Bytes.{bytes}
 use Rattle.line.specs.Decimal.{decimal, digit}
-use Rattle.line.proofs.Decimal.{decimal-one, decimal-more, length-decimal}
+use Rattle.line.proofs.Decimal.{decimal-one, decimal-more}
 use Rattle.text.specs.Room.{cleared, padded, Put}
-use Rattle.text.specs.Writing.{signByte, rowText, rowsText, joined, textParts, listText, malformedFrom, writeConditions, writeReturns, answerBy, writeAnswer, roomBy, roomWritten, Writable}
+use Rattle.text.specs.Writing.{signByte, rowText, rowsText, joined, textParts, listText, malformedFrom, writeConditions, writeReturns, answerBy, writeAnswer, numbersOf, numbersFor, roomBy, roomWritten, Wrote, Writable}
 use Rattle.text.specs.declared.writing.Written.{Written}
 use Rattle.text.specs.declared.writing.Written.the-variants.{Done, Refused}
 use Rattle.text.proofs.Room.{put-then, sets-one, cleared-padded}
@@ -252,3 +251,20 @@ module _ (n : ℕ) (xs : List ℕ) (room : List ℕ) where
           let y : ⊥ = omega arith in
           absurd y
       go (suc r) z = ap (λ r. roomBy r n xs room) (sym z)
+
+-- The answer has the numbers of its refusal.
+answer-numbers : (n : ℕ) (xs : List ℕ) (r : ℕ) → numbersOf (answerBy r n xs) ≡ numbersFor r n xs
+unfolding numbersOf numbersFor answerBy writeReturns
+answer-numbers n xs zero = refl
+answer-numbers n xs (suc r) =
+    λ i.
+    record {
+      refusal = suc r;
+      returned = writeReturns n xs (suc r);
+      written = cond (sym (eqb·suc-zero r) i) (length (listText n xs)) 0;
+    }
+
+pub wrote : (n : ℕ) (xs : List ℕ) (room : List ℕ) (room′ : List ℕ) (w : Written) → w ≡ writeAnswer n xs (length room) → room′ ≡ roomWritten n xs room → Wrote n xs room room′ w
+unfolding writeAnswer
+wrote n xs room room′ w e f =
+    record { answer = e; numbers = ap numbersOf e ∙ answer-numbers n xs (firstBroken (writeConditions n xs (length room))); left = f }

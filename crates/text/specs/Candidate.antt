@@ -2,7 +2,7 @@
 use mathlib.Core.Path.{_≡_}
 use mathlib.Core.Bool.{Bool, true, false, cond, _&&_, _||_}
 use mathlib.Core.List.{List, [], _∷_, _++_, map}
-use Prim.Native.Nat.{ℕ, zero, suc, _+_, _≤_}
+use Prim.Native.Nat.{ℕ, zero, suc}
 use lib.Dec.{eqb, leb}
 use lib.ListN.{length}
 use Rattle.rule.specs.Number.{cubeNumber}
@@ -51,6 +51,20 @@ readBy (suc r) w = Refused (suc r) (readReturns w (suc r))
 unfoldable pub readAnswer : ℕ → List ℕ → ℕ → Candidate
 readAnswer n text room = readBy (firstBroken (readConditions n text room)) (outcome n text)
 
+-- The numbers of an answer, as document 01 has them: the refusal or 0, what it returns, and the length of the list.
+pub record ReadNumbers : Type 0 where
+  pub refusal : ℕ
+  pub returned : ℕ
+  pub rows : ℕ
+
+unfoldable pub readNumbers : Candidate → ReadNumbers
+readNumbers (Done k) = record { refusal = 0; returned = 0; rows = k }
+readNumbers (Refused r v) = record { refusal = r; returned = v; rows = 0 }
+
+-- The numbers for a refusal or 0.
+unfoldable pub numbersFor : ℕ → Outcome → ReadNumbers
+numbersFor r w = record { refusal = r; returned = readReturns w r; rows = cond (eqb r 0) (length (cubesOf w)) 0 }
+
 -- The room afterwards: at done the cubes and zeros past them; at 8 and 11 all zero; at other refusals as it was.
 unfoldable pub listBy : ℕ → Outcome → List ℕ → List ℕ
 listBy zero w room = padded (cubesOf w) room
@@ -62,17 +76,8 @@ listRead n text room = listBy (firstBroken (readConditions n text (length room))
 -- What the reading entry promises.
 pub record Read (n : ℕ) (text : List ℕ) (room : List ℕ) (room′ : List ℕ) (r : Candidate) : Type 0 where
   pub answer : r ≡ readAnswer n text (length room)
+  pub numbers : readNumbers r ≡ numbersFor (firstBroken (readConditions n text (length room))) (outcome n text)
   pub left : room′ ≡ listRead n text room
-
--- The numbers of an answer, as document 01 has them: the refusal or 0, what it returns, and the length of the list.
-pub record ReadNumbers : Type 0 where
-  pub refusal : ℕ
-  pub returned : ℕ
-  pub rows : ℕ
-
-unfoldable pub readNumbers : Candidate → ReadNumbers
-readNumbers (Done k) = record { refusal = 0; returned = 0; rows = k }
-readNumbers (Refused r v) = record { refusal = r; returned = v; rows = 0 }
 
 -- The second pass: the cube number of a row, and those of the rows up to `.e`.
 unfoldable pub rowNumber : Line → List ℕ

@@ -1,15 +1,17 @@
 -- Awkward texts as one table, with the outcome of each, and the one test over it.
 use mathlib.Core.Bool.{Bool, true, false, _&&_}
-use mathlib.Core.List.{List, [], _∷_, _++_}
+use mathlib.Core.List.{List, [], _∷_, map}
 use Prim.Native.Nat.{ℕ}
 use Prim.Native.String.{String}
 use lib.Dec.{eqb}
 use Rattle.rule.specs.Number.{cubeNumber}
-use Rattle.rule.specs.Marked.{written, sameList}
-use Rattle.rule.specs.Rows.{Kind, f, fd, fr, Out, out0, out1, outDash, outTilde, Row}
+use Rattle.rule.specs.Marked.{written, sameList, sameCube}
+use Rattle.rule.specs.Rows.{Kind, f, fd, fr, Out, out0, out1, outDash, outTilde, Row, lowerOf, upperOf}
+use Rattle.rule.specs.Rule.{listOf, listNumbers}
 use Rattle.line.specs.Bytes.{bytes}
 use Rattle.line.specs.Meaning.{afterEnd}
 use Rattle.text.specs.Outcome.{Outcome, good, fault, outcome}
+use Rattle.text.specs.Writing.{listText}
 
 pub data Example : Type 0 where
   -- what is asked, a text: these columns, this type, these rows
@@ -18,6 +20,10 @@ pub data Example : Type 0 where
   faults : ℕ → String → ℕ → Example
   -- a text: what follows its first `.e` line
   leaves : String → String → Example
+  -- a function text: the rule gives these rows for what its rows mean
+  lists : String → List String → Example
+  -- a function text: its list, written out
+  writes : String → String → Example
 
 -- A row as it is written.
 unfoldable pub rowAs : String → Out → Row
@@ -43,11 +49,23 @@ unfoldable pub outcomeCode : Outcome → List ℕ
 outcomeCode (good n t rs) = 0 ∷ n ∷ kindCode t ∷ rowCodes rs
 outcomeCode (fault k) = 1 ∷ k ∷ []
 
+-- The list of a function text, and whether it is some rows; a faulty text has none.
+unfoldable pub hasList : Outcome → List String → Bool
+hasList (good n t rs) list = sameList sameCube (listOf n (lowerOf n t rs) (upperOf n t rs)) (map written list)
+hasList (fault k) list = false
+
+-- Whether the list of a function text, written out, is some bytes.
+unfoldable pub hasText : Outcome → List ℕ → Bool
+hasText (good n t rs) text = sameList eqb (listText n (listNumbers n (lowerOf n t rs) (upperOf n t rs))) text
+hasText (fault k) text = false
+
 -- Whether an example holds of the definitions.
 unfoldable pub holds : Example → Bool
 holds (reads asked text n t rs) = sameList eqb (outcomeCode (outcome asked (bytes text))) (outcomeCode (good n t rs))
 holds (faults asked text k) = sameList eqb (outcomeCode (outcome asked (bytes text))) (outcomeCode (fault k))
 holds (leaves text left) = sameList eqb (afterEnd (bytes text)) (bytes left)
+holds (lists text list) = hasList (outcome 0 (bytes text)) list
+holds (writes text answer) = hasText (outcome 0 (bytes text)) (bytes answer)
 
 unfoldable pub allHold : List Example → Bool
 allHold [] = true
@@ -94,3 +112,16 @@ candidateTexts =
     faults 2 ".i 2\n.o 1\n11 ~\n" 3 ∷ faults 2 "" 1 ∷
     leaves ".i 1\n.e\n.i 2\n.e\n" ".i 2\n.e\n" ∷ leaves ".e" "" ∷ leaves "?\n .e #\nx" "x" ∷ leaves ".i 1\n" "" ∷
     leaves ".i 1" "" ∷ leaves ".e x\n\n.e\n\n" "\n" ∷ []
+
+-- Function texts with their lists.
+unfoldable pub listTexts : List Example
+listTexts =
+    -- Marked case 10 of document 01: rows `11 1` and `11 -` in fd, which an absent type means: list `11`.
+    reads 0 ".i 2\n.o 1\n11 1\n11 -\n" 2 fd (rowAs "11" out1 ∷ rowAs "11" outDash ∷ []) ∷
+    lists ".i 2\n.o 1\n11 1\n11 -\n" ("11" ∷ []) ∷
+    -- Its whole example.
+    lists ".i 2\n.o 1\n01 1\n10 1\n11 -\n.e\n" ("1-" ∷ "-1" ∷ []) ∷
+    writes ".i 2\n.o 1\n01 1\n10 1\n11 -\n.e\n" ".i 2\n.o 1\n.p 2\n1- 1\n-1 1\n.e\n" ∷
+    -- In f a row with - has no meaning; in fr neither, and the points of no row are don't care.
+    lists ".i 2\n.o 1\n.type f\n01 1\n10 1\n11 -\n" ("01" ∷ "10" ∷ []) ∷
+    lists ".i 2\n.o 1\n.type fr\n01 1\n10 0\n11 -\n" ("-1" ∷ []) ∷ []

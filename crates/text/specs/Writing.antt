@@ -1,6 +1,6 @@
 -- The written text of a list, and the entry that writes it: what it refuses, what it answers, and what it leaves behind.
 use mathlib.Core.Path.{_≡_}
-use mathlib.Core.Bool.{Bool, true, false, cond, _&&_}
+use mathlib.Core.Bool.{cond, _&&_}
 use mathlib.Core.List.{List, [], _∷_, _++_, map}
 use Prim.Native.Nat.{ℕ, zero, suc, _+_, _≤_}
 use lib.Dec.{eqb, leb}
@@ -67,6 +67,21 @@ answerBy (suc r) n xs = Refused (suc r) (writeReturns n xs (suc r))
 unfoldable pub writeAnswer : ℕ → List ℕ → ℕ → Written
 writeAnswer n xs room = answerBy (firstBroken (writeConditions n xs room)) n xs
 
+-- The numbers of an answer, as document 01 has them: the refusal or 0, what it returns, and the bytes written.
+pub record Numbers : Type 0 where
+  pub refusal : ℕ
+  pub returned : ℕ
+  pub written : ℕ
+
+unfoldable pub numbersOf : Written → Numbers
+numbersOf (Done k) = record { refusal = 0; returned = 0; written = k }
+numbersOf (Refused r v) = record { refusal = r; returned = v; written = 0 }
+
+-- The numbers for a refusal or 0.
+unfoldable pub numbersFor : ℕ → ℕ → List ℕ → Numbers
+numbersFor r n xs =
+    record { refusal = r; returned = writeReturns n xs r; written = cond (eqb r 0) (length (listText n xs)) 0 }
+
 -- The room afterwards: at done the text and zeros past it, else as it was.
 unfoldable pub roomBy : ℕ → ℕ → List ℕ → List ℕ → List ℕ
 roomBy zero n xs room = padded (listText n xs) room
@@ -78,17 +93,8 @@ roomWritten n xs room = roomBy (firstBroken (writeConditions n xs (length room))
 -- What the writing entry promises.
 pub record Wrote (n : ℕ) (xs : List ℕ) (room : List ℕ) (room′ : List ℕ) (r : Written) : Type 0 where
   pub answer : r ≡ writeAnswer n xs (length room)
+  pub numbers : numbersOf r ≡ numbersFor (firstBroken (writeConditions n xs (length room))) n xs
   pub left : room′ ≡ roomWritten n xs room
-
--- The numbers of an answer, as document 01 has them: the refusal or 0, what it returns, and the bytes written.
-pub record Numbers : Type 0 where
-  pub refusal : ℕ
-  pub returned : ℕ
-  pub written : ℕ
-
-unfoldable pub numbersOf : Written → Numbers
-numbersOf (Done k) = record { refusal = 0; returned = 0; written = k }
-numbersOf (Refused r v) = record { refusal = r; returned = v; written = 0 }
 
 -- What the text's writer asks once nothing is refused.
 pub record Writable (n : ℕ) (xs : List ℕ) (room : ℕ) : Type 0 where

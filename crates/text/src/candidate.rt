@@ -8,9 +8,8 @@ ghost use Rattle.text.specs.Room.{cleared, Put};
 ghost use Rattle.text.specs.Candidate.{rowNumber, rowNumbers, readAnswer, Read};
 use crate::judge;
 use crate::judge::Judged;
-use line::meaning;
+use crate::reader;
 use line::meaning::Line;
-use line::scan;
 use rule::refusal;
 
 // The length of the list, or a refusal's number with what it returns.
@@ -32,7 +31,7 @@ fn clear_list(room: &mut [u32], from: usize)
 }
 
 // Whether a line is `.e`.
-fn ends(line: Line) -> bool
+pub fn ends(line: Line) -> bool
     ensures { λ r. ⌜ r ≡ isEnd line ⌝ }
 {
     match line {
@@ -75,13 +74,13 @@ fn put_cubes(text: &[u8], room: &mut [u32]) -> usize
     let mut at = 0;
     let mut place = 0;
     while at < text.len() {
-        let line = scan::line_at(text, at);
-        let told = meaning::line_meaning(line);
+        let taken = reader::take(text, at);
+        let told = taken.line;
         if ends(told) {
             return place;
         }
         place = put_cube(room, place, told);
-        at = at + line.len() + 1;
+        at = taken.next;
     }
     place
 }

@@ -5,11 +5,10 @@ ghost use lib.ListN.{length};
 ghost use Rattle.line.specs.declared.meaning.Line;
 ghost use Rattle.text.specs.Outcome.{start, withColumns, withOutput, withKind, withCount, withRow, allowsKind, allowsOut, step, finish, outcome};
 ghost use Rattle.text.specs.Judged.{judged, judgedPlus};
-use line::meaning;
+use crate::reader;
 use line::meaning::Kind;
 use line::meaning::Line;
 use line::meaning::Out;
-use line::scan;
 
 // What the lines so far have said: the columns or 0, whether `.o` was there, the type with whether it was given, the
 // stated number of rows with whether it was given, and the rows themselves.
@@ -269,8 +268,8 @@ pub fn judge(asked: u16, text: &[u8]) -> Judged
     let mut at = 0;
     let mut k: u32 = 1;
     while at < text.len() {
-        let line = scan::line_at(text, at);
-        let told = meaning::line_meaning(line);
+        let taken = reader::take(text, at);
+        let told = taken.line;
         let done = take_line(asked, s, told);
         match done {
             Step::On(next) => {
@@ -283,7 +282,7 @@ pub fn judge(asked: u16, text: &[u8]) -> Judged
                 return finish_at(s, k);
             }
         }
-        at = at + line.len() + 1;
+        at = taken.next;
         k += 1;
     }
     finish_at(s, k)

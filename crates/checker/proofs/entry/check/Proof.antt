@@ -1,5 +1,7 @@
 -- `checker::entry::check` meets its contract: the input's conditions first, then the first malformed cube, then the verdict.
-use Rattle.checker.proofs.Entering.{input-refused, list-fits, cube-refused, judge-asks, judged-answer}
+use mathlib.Core.Path.{sym, _∙_}
+use Rattle.graph.proofs.Roots.{input-size}
+use Rattle.checker.proofs.Entering.{input-refused, cube-refused, judge-asks, judged-answer}
 use borrow.Author.Needs.{needs}
 use Rattle.checker.proofs.entry.check.Statement.{statement}
 use Rattle.checker.proofs.entry.check.Tie as tie
@@ -11,7 +13,7 @@ returns : tie.Need-returns
 returns c = input-refused _ _ _ _ _ _ _ _ _ (c .before .input-refusal .ensures) (c .if1 .taken)
 
 malformed-place-requires : tie.Need-malformed-place-requires
-malformed-place-requires c κs = list-fits _ _ _ _ _ _ _ _ _ (c .before .input-refusal .ensures) (c .if1 .left)
+malformed-place-requires c κs = input-size _ _ _ _ _ _ _ _ (sym (c .before .input-refusal .ensures) ∙ c .if1 .left)
 
 returns-2 : tie.Need-returns-2
 returns-2 c = cube-refused _ _ _ _ _ _ _ _ _ (c .before .before .before .input-refusal .ensures) (c .before .before .if1 .left) _ (c .before .malformed-place .ensures) (c .if2 .taken)

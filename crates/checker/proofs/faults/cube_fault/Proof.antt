@@ -32,7 +32,7 @@ cast-t11 : tie.Need-cast-t11 Inv-loop μ-loop
 cast-t11 c = omega (arith, c .before .before .before .before .before .before .before .pre .room)
 
 returns : tie.Need-returns Inv-loop μ-loop
-returns c = cube-here (c .before .before .before .before .before .before .before .args .columns) (c .before .before .before .before .before .before .before .args .lone .now) (c .before .before .before .before .before .before .before .args .list .now) (c .before .before .before .before .loop .i) (c .before .search .result) (c .before .before .before .before .loop .inv) (omega arith) (c .before .search .ensures) (c .if1 .taken)
+returns c = record { fault = cube-here (c .before .before .before .before .before .before .before .args .columns) (c .before .before .before .before .before .before .before .args .lone .now) (c .before .before .before .before .before .before .before .args .list .now) (c .before .before .before .before .loop .i) (c .before .search .result) (c .before .before .before .before .loop .inv) (omega arith) (c .before .search .ensures) (c .if1 .taken) }
 
 add-i : tie.Need-add-i Inv-loop μ-loop
 add-i c = omega arith
@@ -44,7 +44,7 @@ loop-again : tie.Need-loop-again Inv-loop μ-loop
 loop-again c = cube-next (c .before .before .before .before .before .before .before .args .columns) (c .before .before .before .before .before .before .before .args .lone .now) (c .before .before .before .before .before .before .before .args .list .now) (c .before .before .before .before .loop .i) (c .before .search .result) (c .before .before .before .before .loop .inv) (omega arith) (c .before .search .ensures) (c .if1 .left)
 
 returns-2 : tie.Need-returns-2 Inv-loop μ-loop
-returns-2 c = cube-end (c .before .before .before .before .args .columns) (c .before .before .before .before .args .lone .now) (c .before .before .before .before .args .list .now) (c .before .loop .i) (c .before .loop .inv) (omega arith)
+returns-2 c = record { fault = cube-end (c .before .before .before .before .args .columns) (c .before .before .before .before .args .lone .now) (c .before .before .before .before .args .list .now) (c .before .loop .i) (c .before .loop .inv) (omega arith) }
 
 pub cube-fault-spec : {M : Type 1} → statement M
 cube-fault-spec =

@@ -35,7 +35,7 @@ sub-t13 : tie.Need-sub-t13 Inv-loop μ-loop
 sub-t13 c = omega arith
 
 returns : tie.Need-returns Inv-loop μ-loop
-returns c = off-here (c .before .before .before .before .before .before .before .args .columns) (c .before .before .before .before .before .before .before .args .off .now) (c .before .before .before .before .before .before .before .args .list .now) (c .before .before .before .before .loop .i) (c .before .search .result) (c .before .before .before .before .loop .inv) (omega arith) (c .before .search .ensures) (c .if1 .taken)
+returns c = record { fault = off-here (c .before .before .before .before .before .before .before .args .columns) (c .before .before .before .before .before .before .before .args .off .now) (c .before .before .before .before .before .before .before .args .list .now) (c .before .before .before .before .loop .i) (c .before .search .result) (c .before .before .before .before .loop .inv) (omega arith) (c .before .search .ensures) (λ z. omega (arith, c .if1 .taken)) }
 
 add-i : tie.Need-add-i Inv-loop μ-loop
 add-i c = omega arith
@@ -47,7 +47,7 @@ loop-again : tie.Need-loop-again Inv-loop μ-loop
 loop-again c = off-next (c .before .before .before .before .before .before .before .args .columns) (c .before .before .before .before .before .before .before .args .off .now) (c .before .before .before .before .before .before .before .args .list .now) (c .before .before .before .before .loop .i) (c .before .search .result) (c .before .before .before .before .loop .inv) (omega arith) (c .before .search .ensures) (c .if1 .left)
 
 returns-2 : tie.Need-returns-2 Inv-loop μ-loop
-returns-2 c = off-end (c .before .before .before .before .args .columns) (c .before .before .before .before .args .off .now) (c .before .before .before .before .args .list .now) (c .before .loop .i) (c .before .loop .inv) (omega arith)
+returns-2 c = record { fault = off-end (c .before .before .before .before .args .columns) (c .before .before .before .before .args .off .now) (c .before .before .before .before .args .list .now) (c .before .loop .i) (c .before .loop .inv) (omega arith) }
 
 pub off-fault-spec : {M : Type 1} → statement M
 off-fault-spec =

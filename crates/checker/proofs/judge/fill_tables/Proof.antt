@@ -1,15 +1,16 @@
 -- `checker::judge::fill_tables` meets its contract: each root's table is filled from column 0 on, and the upper root's turned to the points
--- outside it.
-use Rattle.checker.proofs.Deciding.{first-table, second-table, both-filled}
+-- outside it. Either root could be filled; which one is, the table's contract tells.
+use Rattle.graph.proofs.Columns.{first-root, second-root}
+use Rattle.checker.proofs.Deciding.{whole-long, both-filled}
 use borrow.Author.Needs.{needs}
 use Rattle.checker.proofs.judge.fill_tables.Statement.{statement}
 use Rattle.checker.proofs.judge.fill_tables.Tie as tie
 
 fill-from-requires : tie.Need-fill-from-requires
-fill-from-requires c κs = first-table _ _ _ _ _ _ _ (c .before .before .before .before .before .before .pre .roots) _ (c .before .before .before .before .before .before .pre .on-long)
+fill-from-requires c κs = record { root = search (first-root (c .before .before .before .before .before .before .pre .roots), second-root (c .before .before .before .before .before .before .pre .roots)); long = whole-long _ (c .before .before .before .before .before .before .pre .on-long) }
 
 fill-from-requires-2 : tie.Need-fill-from-requires-2
-fill-from-requires-2 c κs = second-table _ _ _ _ _ _ _ (c .before .before .before .before .before .before .before .before .before .before .pre .roots) _ (c .before .before .before .before .before .before .before .before .before .before .pre .off-long)
+fill-from-requires-2 c κs = record { root = search (first-root (c .before .before .before .before .before .before .before .before .before .before .pre .roots), second-root (c .before .before .before .before .before .before .before .before .before .before .pre .roots)); long = whole-long _ (c .before .before .before .before .before .before .before .before .before .before .pre .off-long) }
 
 outside-requires : tie.Need-outside-requires
 outside-requires c κs = search needs

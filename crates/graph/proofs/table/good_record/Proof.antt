@@ -44,7 +44,7 @@ refers-to-requires c κs = search needs
 returns-3 : tie.Need-returns-3
 unfolding tableOf
 returns-3 c =
-    let s = c .before .before .before .before .before .before .before .before .before .before .args in
+    let s = c .before .before .before .before .before .before .before .before .before .before .before .before .args in
     sym
     (breaks _ _ _
     (λ g.
@@ -61,7 +61,7 @@ refers-to-requires-2 c κs = search needs
 returns-4 : tie.Need-returns-4
 unfolding tableOf
 returns-4 c =
-    let s = c .before .before .before .before .before .before .before .before .before .before .before .before .args in
+    let s = c .before .before .before .before .before .before .before .before .before .before .before .before .before .before .args in
     sym
     (breaks _ _ _
     (λ g.
@@ -69,21 +69,18 @@ returns-4 c =
     (sym (c .before .refers-to2 .ensures (s .low .now) (s .high .now)) ∙
     not-is-true (c .before .refers-to2 .result) (c .if4 .taken))))
 
-number-at-requires : tie.Need-number-at-requires
-number-at-requires c κs = search needs
+chained-at-requires : tie.Need-chained-at-requires
+chained-at-requires c κs = c .before .before .before .before .before .before .before .before .before .before .before .before .before .before .pre .chained
 
 returns-5 : tie.Need-returns-5
 unfolding tableOf
 returns-5 c =
-    let s = c .before .before .before .before .before .before .before .before .before .before .before .before .before .args in
-    let l = c .before .before .before .before .refers-to in
-    let h = c .before .before .refers-to2 in
+    let s = c .before .before .before .before .before .before .before .before .before .before .before .before .before .before .before .args in
     sym
-    (look-up-decides _ _ _ _ (c .before .before .before .before .before .before .if1 .left)
-    (c .before .before .before .before .before .if2 .left)
-    (sym (l .ensures (s .low .now) (s .high .now)) ∙ not-is-false (l .result) (c .before .before .before .if3 .left))
-    (sym (h .ensures (s .low .now) (s .high .now)) ∙ not-is-false (h .result) (c .before .if4 .left))
-    (c .number-at .ensures))
+    (look-up-decides _ _ _ _ (c .before .before .before .before .before .before .if1 .left) (c .before .before .before .before .before .if2 .left)
+    (sym (c .before .before .before .before .refers-to .ensures (s .low .now) (s .high .now)) ∙ not-is-false (c .before .before .before .before .refers-to .result) (c .before .before .before .if3 .left))
+    (sym (c .before .before .refers-to2 .ensures (s .low .now) (s .high .now)) ∙ not-is-false (c .before .before .refers-to2 .result) (c .before .if4 .left))
+    (c .chained-at .ensures))
 
 pub good-record-spec : {M : Type 1} → statement M
 good-record-spec =
@@ -103,5 +100,5 @@ good-record-spec =
     add-refers-to-2
     refers-to-requires-2
     returns-4
-    number-at-requires
+    chained-at-requires
     returns-5)

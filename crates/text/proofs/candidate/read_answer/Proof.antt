@@ -1,5 +1,4 @@
 -- `text::candidate::read_answer` meets its contract: the tests come in the order of the refusals.
-use borrow.Author.Needs.{needs}
 use Rattle.text.proofs.Taken.{asks-no-columns, asks-over-columns, over-text, over-room, text-faulty, room-short, room-enough}
 use borrow.Author.Needs.{needs}
 use Rattle.text.proofs.candidate.read_answer.Statement.{statement}

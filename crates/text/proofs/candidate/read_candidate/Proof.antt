@@ -3,12 +3,11 @@
 use mathlib.Core.Path.{sym, ap, _∙_}
 use native.Mathlib.Omega.{arith}
 use lib.ListN.{length}
-use borrow.Author.Needs.{needs}
 use Rattle.text.specs.Outcome.{outcome}
 use Rattle.text.specs.Candidate.{cubesOf}
 use Rattle.text.proofs.Room.{put-kept}
 use Rattle.text.proofs.Written.{put-padded}
-use Rattle.text.proofs.Taken.{done-takes, cleared-by-fault, cleared-by-lack, kept-by-others}
+use Rattle.text.proofs.Taken.{done-takes, cleared-by-fault, cleared-by-lack, kept-by-others, has-taken}
 use borrow.Author.Needs.{needs}
 use Rattle.text.proofs.candidate.read_candidate.Statement.{statement}
 use Rattle.text.proofs.candidate.read_candidate.Tie as tie
@@ -26,10 +25,7 @@ same-length : tie.Need-same-length
 same-length c = search needs
 
 returns : tie.Need-returns
-returns c = record {
-  answer = sym (c .before .before .before .before .before .before .told .given .1) ∙ c .before .before .before .before .before .before .before .before .read-answer .ensures;
-  left = c .before .before .clear-list .ensures ∙ cleared-by-fault (c .before .before .before .before .before .before .before .before .before .before .before .args .columns) (c .before .before .before .before .before .before .before .before .before .before .before .args .text .now) (c .before .before .before .before .before .before .before .before .before .before .before .args .room .now) (c .before .before .before .before .before .before .before .before .read-answer .result) (c .before .before .before .before .before .before .told .given .0 .0) (c .before .before .before .before .before .before .told .given .0 .1 .0) (c .before .before .before .before .before .before .before .before .read-answer .ensures) (c .before .before .before .before .before .before .told .given .1) (c .before .before .before .before .if1 .taken);
-}
+returns c = has-taken _ _ _ _ _ (sym (c .before .before .before .before .before .before .told .given .1) ∙ c .before .before .before .before .before .before .before .before .read-answer .ensures) (c .before .before .clear-list .ensures ∙ cleared-by-fault (c .before .before .before .before .before .before .before .before .before .before .before .args .columns) (c .before .before .before .before .before .before .before .before .before .before .before .args .text .now) (c .before .before .before .before .before .before .before .before .before .before .before .args .room .now) (c .before .before .before .before .before .before .before .before .read-answer .result) (c .before .before .before .before .before .before .told .given .0 .0) (c .before .before .before .before .before .before .told .given .0 .1 .0) (c .before .before .before .before .before .before .before .before .read-answer .ensures) (c .before .before .before .before .before .before .told .given .1) (c .before .before .before .before .if1 .taken))
 
 clear-list-requires-2 : tie.Need-clear-list-requires-2
 clear-list-requires-2 c κs = search needs
@@ -38,10 +34,7 @@ same-length-2 : tie.Need-same-length-2
 same-length-2 c = search needs
 
 returns-2 : tie.Need-returns-2
-returns-2 c = record {
-  answer = sym (c .before .before .before .before .before .before .before .told .given .1) ∙ c .before .before .before .before .before .before .before .before .before .read-answer .ensures;
-  left = c .before .before .clear-list2 .ensures ∙ cleared-by-lack (c .before .before .before .before .before .before .before .before .before .before .before .before .args .columns) (c .before .before .before .before .before .before .before .before .before .before .before .before .args .text .now) (c .before .before .before .before .before .before .before .before .before .before .before .before .args .room .now) (c .before .before .before .before .before .before .before .before .before .read-answer .result) (c .before .before .before .before .before .before .before .told .given .0 .0) (c .before .before .before .before .before .before .before .told .given .0 .1 .0) (c .before .before .before .before .before .before .before .before .before .read-answer .ensures) (c .before .before .before .before .before .before .before .told .given .1) (c .before .before .before .before .before .if1 .left) (c .before .before .before .before .if2 .taken);
-}
+returns-2 c = has-taken _ _ _ _ _ (sym (c .before .before .before .before .before .before .before .told .given .1) ∙ c .before .before .before .before .before .before .before .before .before .read-answer .ensures) (c .before .before .clear-list2 .ensures ∙ cleared-by-lack (c .before .before .before .before .before .before .before .before .before .before .before .before .args .columns) (c .before .before .before .before .before .before .before .before .before .before .before .before .args .text .now) (c .before .before .before .before .before .before .before .before .before .before .before .before .args .room .now) (c .before .before .before .before .before .before .before .before .before .read-answer .result) (c .before .before .before .before .before .before .before .told .given .0 .0) (c .before .before .before .before .before .before .before .told .given .0 .1 .0) (c .before .before .before .before .before .before .before .before .before .read-answer .ensures) (c .before .before .before .before .before .before .before .told .given .1) (c .before .before .before .before .before .if1 .left) (c .before .before .before .before .if2 .taken))
 
 enum-known-told-2 : tie.Need-enum-known-told-2
 enum-known-told-2 c = search needs
@@ -55,20 +48,14 @@ clear-list-requires-3 c κs = let t = done-takes (c .before .before .before .bef
     omega (arith, p .next, put-kept p, ap length (t .same), t .fits)
 
 returns-3 : tie.Need-returns-3
-returns-3 c = record {
-  answer = sym (c .before .before .before .told .given .1) ∙ c .before .before .before .before .before .read-answer .ensures;
-  left = kept-by-others (c .before .before .before .before .before .before .before .before .args .columns) (c .before .before .before .before .before .before .before .before .args .text .now) (c .before .before .before .before .before .before .before .before .args .room .now) (c .before .before .before .before .before .read-answer .result) (c .before .before .before .told .given .0 .0) (c .before .before .before .told .given .0 .1 .0) (c .before .before .before .before .before .read-answer .ensures) (c .before .before .before .told .given .1) (c .before .if1 .left) (c .if2 .left);
-}
+returns-3 c = has-taken _ _ _ _ _ (sym (c .before .before .before .told .given .1) ∙ c .before .before .before .before .before .read-answer .ensures) (kept-by-others (c .before .before .before .before .before .before .before .before .args .columns) (c .before .before .before .before .before .before .before .before .args .text .now) (c .before .before .before .before .before .before .before .before .args .room .now) (c .before .before .before .before .before .read-answer .result) (c .before .before .before .told .given .0 .0) (c .before .before .before .told .given .0 .1 .0) (c .before .before .before .before .before .read-answer .ensures) (c .before .before .before .told .given .1) (c .before .if1 .left) (c .if2 .left))
 
 same-length-3 : tie.Need-same-length-3
 same-length-3 c = search needs
 
 returns-4 : tie.Need-returns-4
 returns-4 c = let t = done-takes (c .before .before .before .before .before .before .before .before .before .before .before .before .before .before .args .columns) (c .before .before .before .before .before .before .before .before .before .before .before .before .before .before .args .text .now) (c .before .before .before .before .before .before .before .before .before .before .before .before .before .before .args .room .now) (c .before .before .before .before .before .before .before .before .before .before .before .read-answer .result) (c .before .before .before .before .before .before .before .before .before .told2 .given .0 .0) (c .before .before .before .before .before .before .before .before .before .before .before .read-answer .ensures) (c .before .before .before .before .before .before .before .before .before .told2 .given .1) in
-    record {
-      answer = sym (c .before .before .before .before .before .before .before .before .before .told2 .given .1) ∙ c .before .before .before .before .before .before .before .before .before .before .before .read-answer .ensures;
-      left = c .before .before .clear-list3 .ensures ∙ put-padded (c .before .before .before .before .before .before .put-cubes .ensures) (cubesOf (outcome (c .before .before .before .before .before .before .before .before .before .before .before .before .before .before .args .columns) (c .before .before .before .before .before .before .before .before .before .before .before .before .before .before .args .text .now))) (t .same) (t .fits) ∙ t .left;
-    }
+    has-taken _ _ _ _ _ (sym (c .before .before .before .before .before .before .before .before .before .told2 .given .1) ∙ c .before .before .before .before .before .before .before .before .before .before .before .read-answer .ensures) (c .before .before .clear-list3 .ensures ∙ put-padded (c .before .before .before .before .before .before .put-cubes .ensures) (cubesOf (outcome (c .before .before .before .before .before .before .before .before .before .before .before .before .before .before .args .columns) (c .before .before .before .before .before .before .before .before .before .before .before .before .before .before .args .text .now))) (t .same) (t .fits) ∙ t .left)
 
 pub read-candidate-spec : {M : Type 1} → statement M
 read-candidate-spec =
