@@ -5,7 +5,7 @@ use mathlib.Core.List.{List, [], _∷_, map}
 use Prim.Native.Nat.{ℕ, zero, suc, _+_, _≤_, _<_, zero-le}
 use native.Mathlib.Nat.{le-antisymm}
 use native.Mathlib.Omega.{arith}
-use lib.ListN.{length, getD, set, length-map, List·getD-map}
+use lib.ListN.{length, getD, set, List·getD-map}
 use Rattle.nodes.specs.declared.row.Node.{Node}
 use Rattle.nodes.proofs.Copying.{copied, copied-none, copied-more, copied-all}
 

@@ -24,7 +24,7 @@ use Rattle.nodes.proofs.Refusals.{over-refused, over-number}
 use Rattle.nodes.proofs.Rows.{same-row, levels-take, lows-take, highs-take, levels-cleared, lows-cleared, highs-cleared}
 
 -- A field of the row that is left.
-left-field : (f : List Node → List ℕ) (c : ℕ) (xs : List Node) → f (clearedRow c xs) ≡ cleared c (f xs) → (t : Bool) → f (cond t xs (clearedRow c xs)) ≡ cond t (f xs) (cleared c (f xs))
+pub left-field : (f : List Node → List ℕ) (c : ℕ) (xs : List Node) → f (clearedRow c xs) ≡ cleared c (f xs) → (t : Bool) → f (cond t xs (clearedRow c xs)) ≡ cond t (f xs) (cleared c (f xs))
 left-field f c xs e true = refl
 left-field f c xs e false = e
 

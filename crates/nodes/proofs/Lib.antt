@@ -1,4 +1,5 @@
 -- The laws of rows of records, and what the walks over them share.
+pub mod Counting
 pub mod Copying
 pub mod Records
 pub mod Fields
@@ -9,4 +10,6 @@ pub mod Operations
 pub mod Values
 pub mod Verdicts
 pub mod Generating
+pub mod Readings
+pub mod Unique
 pub mod Lending

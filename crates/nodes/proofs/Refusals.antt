@@ -1,12 +1,12 @@
 -- The refusal of a row of more than 4,096 records: it is number 1 or 2, whatever else is asked.
 use mathlib.Core.Path.{_≡_, refl, ap, _∙_}
 use mathlib.Core.Bool.{Bool, true, false, cond, _&&_, true≢false}
-use mathlib.Core.List.{List, [], _∷_, _++_, map}
+use mathlib.Core.List.{List, _++_}
 use mathlib.Core.Logic.{_⊎_, inl, inr}
 use Prim.Native.Nat.{ℕ, _<_}
 use lib.Dec.{eqb, leb}
 use lib.ListN.{length, length-map}
-use borrow.Author.Tests.{lt-leb, eq-eqb}
+use borrow.Author.Tests.{lt-leb}
 use Rattle.rule.specs.Refusal.{Condition, firstBroken}
 use Rattle.graph.specs.Entry.{tableConditions}
 use Rattle.nodes.specs.Row.{levels, lows, highs, overRefusal}

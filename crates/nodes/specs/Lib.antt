@@ -3,3 +3,4 @@ pub mod Operation
 pub mod Value
 pub mod Verdict
 pub mod Generator
+pub mod Reading

@@ -1,5 +1,4 @@
 // The list generator on a lent row of records.
-ghost use mathlib.Core.Path.{_≡_};
 ghost use Rattle.nodes.specs.Generator.{RowGenerates, GeneratesOn};
 use crate::apart;
 use crate::row;

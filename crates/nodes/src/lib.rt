@@ -2,6 +2,7 @@
 pub mod apart;
 pub mod generator;
 pub mod operation;
+pub mod reading;
 pub mod row;
 pub mod value;
 pub mod verdict;

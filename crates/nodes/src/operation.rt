@@ -1,5 +1,4 @@
 // The building operations on a lent row of records.
-ghost use mathlib.Core.Path.{_≡_};
 ghost use Rattle.graph.specs.Entry.{Operated};
 ghost use Rattle.nodes.specs.Operation.{rangedFor, resultFor, Operates, OperatesOn};
 use crate::apart;

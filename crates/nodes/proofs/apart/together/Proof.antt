@@ -1,6 +1,6 @@
 -- `nodes::apart::together` meets its contract: the numbers so far of each field are stored, and at the end all are.
 use mathlib.Core.Path.{refl, ap, _∙_}
-use Prim.Native.Nat.{ℕ, _-_}
+use Prim.Native.Nat.{_-_}
 use borrow.Author.Needs.{needs}
 use lib.ListN.{length, length-map, length-replicate}
 use Rattle.nodes.specs.Row.{levels, lows, highs, zeroNode}

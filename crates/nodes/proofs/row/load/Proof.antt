@@ -5,7 +5,7 @@ use mathlib.Core.Path.{_≡_, refl, sym, ap, subst, _∙_}
 use mathlib.Core.Bool.{Bool, true, false}
 use mathlib.Core.List.{List, [], _∷_}
 use mathlib.Core.WellFounded.{WellFounded, InvImage·wf}
-use Prim.Native.Nat.{ℕ, _+_, _*_, _-_, _≤_, _<_, _^_, min, zero-le}
+use Prim.Native.Nat.{ℕ, _+_, _-_, _≤_, _<_, _^_, min, zero-le}
 use native.Mathlib.Nat.{le-antisymm, min-le-left, min-le-right}
 use native.Mathlib.Omega.{arith}
 use lib.Dec.{ltb, lit<}
@@ -28,7 +28,7 @@ use types.Kit.{Given, Item, ‵, raw, some, later, _⊛_, runs, anyQ, atRet, Sq,
 use types.Part.{whole, sub, look-in}
 use types.Run.{look, look-raw, store, store-raw, init, forget, stop, hop, fld, from, load as loads, lit, addr, of-opd, bin, and-then, no-more, assigns, assigns-last, land, first, blocks, stays, leaves-loop, exec, returns, enter, alloc1, alloc0, params1, pass1, pass0, free1, free0, Below, again, loops}
 use types.Share.{arr-parts}
-use sound.WpLaws.{FmC, fmOf, WpFn-mono}
+use sound.WpLaws.{fmOf, WpFn-mono}
 use denote.RattleType.{owns}
 use denote.Laws.{Is, shows}
 use denote.Memory.{pointee, shares}
@@ -51,8 +51,9 @@ use denote.Triple.Walked.{says, Stays, stay-none-slice, walkOf, goes-none-slice,
 use denote.Exit.{yes}
 use Rattle.nodes.specs.Row.{zeroNode, over}
 use Rattle.nodes.specs.declared.row.Node.{Node}
+use Rattle.nodes.proofs.Counting.{small, next-small, nearer, further}
 use Rattle.nodes.proofs.Copying.{copied, copied-none, copied-more, length-copied, copied-over}
-use Rattle.nodes.proofs.Records.{N, vals, val, arr, node-makes, arr-makes, node-typed, arr-typed, scatters, gathers}
+use Rattle.nodes.proofs.Records.{N, vals, arr, node-makes, arr-makes, node-typed, arr-typed, scatters, gathers}
 use Rattle.nodes.proofs.row.Node as T
 use Rattle.nodes.proofs.row.Node.Laws as T′
 use Rattle.nodes.proofs.row.zeros as zeros
@@ -88,19 +89,6 @@ module _ {M : Type 1} (𝓤 : URA M) (H : Heap 𝓤) (A : Atoms 𝓤) (mem : Mem
 
   abbrev Shared : Contract 𝓤
   Shared = tripleOf 𝓤 H A shared.signature (shared.spec 𝓤 H A mem run)
-
--- a place in the table is far below what a usize holds
-small : (i n : ℕ) → i < n → n ≤ 4096 → i * 6 < 2 ^ 64
-small i n l k = omega arith
-
-next-small : (i n : ℕ) → i < n → n ≤ 4096 → i + 1 < 2 ^ 64
-next-small i n l k = omega arith
-
-nearer : (i n : ℕ) → i < n → n - (i + 1) < n - i
-nearer i n l = omega arith
-
-further : (i n : ℕ) → i < n → i + 1 ≤ n
-further i n l = omega arith
 
 module _ {M : Type 1} (𝓤 : URA M) (H : Heap 𝓤) (A : Atoms 𝓤) (W : Given 𝓤 H A) (mem : Memory → SProp 𝓤) (run : Routine → Fun 𝓤) (κ : Lft) (q : Share) (b o : ℕ) (γ : GName) (ys : List Node) where
   abbrev x : RefT (List Node)
