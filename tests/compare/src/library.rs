@@ -138,6 +138,18 @@ extern "C" {
         bytes: usize,
         out: *mut [u64; 2],
     ) -> u16;
+    fn dowrhesk_list_answer(
+        input: *const u8,
+        inputs: usize,
+        answer: *mut u8,
+        answers: usize,
+    ) -> usize;
+    fn dowrhesk_check_answer(
+        input: *const u8,
+        inputs: usize,
+        answer: *mut u8,
+        answers: usize,
+    ) -> usize;
 }
 
 /// What the arrays hold before a call, so that an answer that was not written is noticed.
@@ -452,4 +464,16 @@ pub fn write_list(columns: u16, list: &[u32], room: &mut [u8]) -> Delivered {
         dowrhesk_write_list(columns, list, cubes, room, bytes, &mut out)
     };
     delivered(status, out)
+}
+
+/// The first program's answer to an input: the number of its bytes, which stand in the room.
+pub fn list_answer(input: &[u8], room: &mut [u8]) -> usize {
+    // Safety: as in `of_two_roots`; the input is only read.
+    unsafe { dowrhesk_list_answer(input.as_ptr(), input.len(), room.as_mut_ptr(), room.len()) }
+}
+
+/// And the second program's.
+pub fn check_answer(input: &[u8], room: &mut [u8]) -> usize {
+    // Safety: as in `of_two_roots`; the input is only read.
+    unsafe { dowrhesk_check_answer(input.as_ptr(), input.len(), room.as_mut_ptr(), room.len()) }
 }
