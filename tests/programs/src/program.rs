@@ -77,7 +77,8 @@ impl Program {
     pub fn built(self) -> PathBuf {
         let top = Path::new(env!("CARGO_MANIFEST_DIR")).join("../..");
         let name = format!("target/bin/{}", self.name());
-        let word = "run `rt check pla_list pla_check` at the top of the repository";
+        let word = "run `rt check pla_list pla_check` at the top of the repository; \
+            where it finds nothing changed, remove target/ before";
         let Some(made) = modified(&top.join(&name)) else {
             panic!("there is no {name}: {word}");
         };
