@@ -1,148 +1,73 @@
-//! Measures the checker on the greatest lists. Without a word it times the proved library and the
-//! second program in one run, on the same input, and tells the ratio. With the name of a list, and
-//! with `library` or `second`, it judges that list once, for counting instructions.
+//! Measures the proved code. Without a word it times the checker on the greatest lists, by the library
+//! and by the second program. `bench speed` writes the table of the two programs and the generator, on
+//! the corpus and on hard inputs. Other words make one call, for counting instructions.
 
-use compare::check::{Check, Judged, ACCEPT, CUBE};
-use compare::functions::{by_signs, Laid};
-use compare::random::Random;
+mod generations;
+mod inputs;
+mod lists;
+mod measure;
+mod rivals;
+mod speed;
+
+use crate::generations::GENERATIONS;
+use crate::lists::CASES;
+use crate::measure::counted;
+use programs::program::{Program, ROOM};
 use std::env;
+use std::io::Read;
 use std::process::ExitCode;
-use std::time::{Duration, Instant};
 
-/// A list for a function of 16 columns, and the verdict on it.
-struct Case {
-    name: &'static str,
-    sign: fn(u32) -> u8,
-    rows: fn() -> Vec<u32>,
-    verdict: (u64, [u64; 2]),
-}
-
-const CASES: [Case; 4] = [
-    Case {
-        name: "threshold",
-        sign: at_least_eight,
-        rows: choices_of_eight,
-        verdict: (ACCEPT, [0, 0]),
-    },
-    Case {
-        name: "dashes",
-        sign: |_| b'1',
-        rows: || vec![0; 16_384],
-        verdict: (CUBE, [1, 0]),
-    },
-    Case {
-        name: "points",
-        sign: |point| b"01"[usize::from(odd(point & 0x7fff) && point >> 15 == 1)],
-        rows: odd_points,
-        verdict: (ACCEPT, [0, 0]),
-    },
-    Case {
-        name: "literals",
-        sign: off_at_the_end,
-        rows: || vec![LAST_SIX; 16_384],
-        verdict: (CUBE, [1, 0]),
-    },
-];
-
-/// The row whose literals are 1 in the last six columns.
-const LAST_SIX: u32 = 0xfc00;
-
-/// On where the last six columns are all 1; off where the other ten are all 1 and of the last six all but one: so each
-/// literal of that row is needed, for an off point that stands in the last word of a table.
-fn off_at_the_end(point: u32) -> u8 {
-    let last = (point & LAST_SIX).count_ones();
-    match (last, point & !LAST_SIX) {
-        (6, _) => b'1',
-        (5, 0x03ff) => b'0',
-        _ => b'-',
-    }
-}
-
-fn odd(point: u32) -> bool {
-    point.count_ones() % 2 == 1
-}
-
-fn at_least_eight(point: u32) -> u8 {
-    b"01"[usize::from(point.count_ones() >= 8)]
-}
-
-/// 12,870 rows of eight literals.
-fn choices_of_eight() -> Vec<u32> {
-    let numbers = 0..1 << 16;
-    numbers.filter(|row: &u32| row.count_ones() == 8).collect()
-}
-
-/// 16,384 rows without a dash: the points with the last column 1 and an odd number of others.
-fn odd_points() -> Vec<u32> {
-    let points = (0..1 << 15).filter(|&point| odd(point));
-    points
-        .map(|point| point | 1 << 15 | (!point & 0x7fff) << 16)
-        .collect()
-}
-
-impl Case {
-    fn check(&self) -> Check {
-        let laid = Laid::over(&mut Random::new(1), 16, &[], by_signs(16, self.sign));
-        laid.checked(&mut Random::new(2), laid.count(), (self.rows)())
-    }
-
-    fn right(&self, judged: Judged) {
-        let (kind, values) = self.verdict;
-        assert_eq!(judged, Judged::verdict(kind, values), "{}", self.name);
-    }
-
-    /// The least time of some runs.
-    fn time(&self, judge: impl Fn() -> Judged) -> Duration {
-        let run = |_| {
-            let begun = Instant::now();
-            self.right(judge());
-            begun.elapsed()
-        };
-        (0..5).map(run).min().unwrap()
-    }
-
-    fn compare(&self) {
-        let check = self.check();
-        let proved = self.time(|| check.by_library());
-        let second = self.time(|| check.by_second());
-        let ratio = second.as_secs_f64() / proved.as_secs_f64();
-        let rows = check.list.len();
-        println!(
-            "{:10} {rows:6} rows  library {proved:>10.2?}  second {second:>10.2?}  ratio {ratio:.2}",
-            self.name
-        );
-    }
-}
+const USE: &str = "bench [speed | LIST library|second | GENERATION library|second | \
+    pla_list|pla_check library|second < INPUT]";
 
 fn main() -> ExitCode {
     let words: Vec<String> = env::args().skip(1).collect();
-    let named = |name: &String| CASES.iter().find(|case| case.name == name);
-    match &words[..] {
-        [] => CASES.iter().for_each(Case::compare),
-        [name, who] if named(name).is_some() && (who == "library" || who == "second") => {
-            let case = named(name).unwrap();
-            let check = case.check();
-            case.right(match who.as_str() {
-                "library" => check.by_library(),
-                _ => check.by_second(),
-            });
+    let words: Vec<&str> = words.iter().map(String::as_str).collect();
+    let done = match words[..] {
+        [] => {
+            CASES.iter().for_each(lists::Case::compare);
+            true
         }
-        _ => {
-            eprintln!("bench [LIST library|second]");
-            return ExitCode::FAILURE;
+        ["speed"] => {
+            speed::write();
+            true
         }
+        [name, who @ ("library" | "second")] => one_call(name, who == "library"),
+        _ => false,
+    };
+    if done {
+        return ExitCode::SUCCESS;
     }
-    ExitCode::SUCCESS
+    eprintln!("{USE}");
+    ExitCode::FAILURE
 }
 
-#[cfg(test)]
-mod tests {
-    use super::CASES;
+/// Makes the call of this name once, and tells whether there is one.
+fn one_call(name: &str, library: bool) -> bool {
+    let list = CASES.iter().find(|case| case.name == name);
+    let generation = GENERATIONS.iter().find(|case| case.name == name);
+    let program = Program::BOTH
+        .into_iter()
+        .find(|program| program.name() == name);
+    if let Some(case) = list {
+        case.judge(library);
+    }
+    if let Some(case) = generation {
+        case.generate(library);
+    }
+    if let Some(program) = program {
+        answer(program, library);
+    }
+    list.is_some() || generation.is_some() || program.is_some()
+}
 
-    #[test]
-    fn both_give_the_verdict() {
-        for case in CASES {
-            case.right(case.check().judged());
-        }
+/// Answers standard input.
+fn answer(program: Program, library: bool) {
+    let mut input = Vec::new();
+    std::io::stdin().read_to_end(&mut input).unwrap();
+    if library {
+        counted(|| program.in_room(&input, ROOM));
+    } else {
+        counted(|| program.by_second(&input));
     }
 }

@@ -63,7 +63,7 @@ impl Generation {
         proved
     }
 
-    fn by_library(&self) -> Listed {
+    pub fn by_library(&self) -> Listed {
         let mut table = self.table.clone();
         let mut room = self.room.clone();
         let generated = library::generate(
@@ -85,7 +85,7 @@ impl Generation {
         }
     }
 
-    fn by_second(&self) -> Listed {
+    pub fn by_second(&self) -> Listed {
         match self.table.records() {
             Some(records) => self.by_second_on(records),
             None => self.lengths_differ(),
