@@ -32,6 +32,19 @@ pub fn abc_alone() -> Option<Run> {
     run("berkeley-abc", |command| command.args(["-q", "quit"]))
 }
 
+/// The rule's list over BuDDy's diagrams, by a program of this folder, which is compiled where BuDDy is installed.
+pub fn buddy(input: &Path) -> Option<Run> {
+    let program = std::env::temp_dir().join("bench-buddy");
+    let source = Path::new(env!("CARGO_MANIFEST_DIR")).join("rivals/buddy.c");
+    if !program.exists() {
+        let mut compile = Command::new("cc");
+        compile.arg("-O2").arg("-o").arg(&program).arg(source);
+        let made = compile.arg("-lbdd").stderr(Stdio::null()).status();
+        made.ok().filter(|status| status.success())?;
+    }
+    run(program.to_str()?, |command| command.arg(input))
+}
+
 fn run(name: &str, words: impl Fn(&mut Command) -> &mut Command) -> Option<Run> {
     if !installed(name) {
         return None;

@@ -13,8 +13,8 @@ use std::path::PathBuf;
 use std::time::Duration;
 
 pub fn write() {
-    println!("| program | input | bytes | answer | instructions | second program's | ratio | time | second program's | whole run | ABC, whole run | espresso, whole run |");
-    println!("|---|---|---|---|---|---|---|---|---|---|---|---|");
+    println!("| program | input | bytes | answer | instructions | second program's | ratio | time | second program's | whole run | ABC, whole run | BuDDy, whole run | espresso, whole run |");
+    println!("|---|---|---|---|---|---|---|---|---|---|---|---|---|");
     for case in named().iter().chain(&hard()) {
         program_row(case);
     }
@@ -49,9 +49,10 @@ fn program_row(case: &Case) {
     let whole = best(|| drop(process.with_input(File::open(&file).unwrap())));
     let listing = program == Program::List;
     let abc = listing.then(|| rivals::abc(&file)).flatten();
+    let buddy = listing.then(|| rivals::buddy(&file)).flatten();
     let espresso = listing.then(|| rivals::espresso(&file)).flatten();
     println!(
-        "| `{}` | {} | {} | {} | {} | {} | {} | {} | {} | {} | {} | {} |",
+        "| `{}` | {} | {} | {} | {} | {} | {} | {} | {} | {} | {} | {} | {} |",
         program.name(),
         case.name,
         input.len(),
@@ -63,6 +64,7 @@ fn program_row(case: &Case) {
         time(by_second),
         time(whole),
         other(abc),
+        other(buddy),
         other(espresso)
     );
     fs::remove_file(file).unwrap();
