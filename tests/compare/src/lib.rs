@@ -4,13 +4,15 @@
 //! `library` calls the static library; `call` is one call of an operation as both answer it,
 //! `generation` one of the generator, `check` one of the checker and `text_entry` one of an entry for
 //! texts; `tables` makes tables that keep their rule, and breaks them in one place; `functions` makes
-//! functions with don't cares, and lays them into tables; `lists` changes lists; `texts` makes texts
+//! functions with don't cares, and lays them into tables; `lists` changes lists; `faults` puts
+//! the faults into a call that generator and checker refuse alike; `texts` makes texts
 //! without fault, `damage` those with one fault or some, and `reader` reads them in every way; `random`
 //! and `tally` serve the tests.
 
 pub mod call;
 pub mod check;
 pub mod damage;
+pub mod faults;
 pub mod functions;
 pub mod generation;
 pub mod lists;

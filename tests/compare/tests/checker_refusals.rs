@@ -2,6 +2,8 @@
 //! that applies is given. It returns 0, and with number 9 the position of the first malformed cube.
 
 use compare::check::{Check, Judged};
+use compare::faults::{break_call, break_laid, break_length, break_range, some};
+use compare::faults::{OF_COLUMNS, OF_LENGTH, OF_RANGE};
 use compare::functions::{Laid, Making};
 use compare::lists::{some_cube, some_cubes, Change};
 use compare::random::Random;
@@ -11,17 +13,6 @@ use second::cube::well_formed;
 use second::refusal::{COLUMNS_OVER, CUBE_MALFORMED, DONE, LIST_OVER, MOST_CUBES};
 use second::refusal::{MOST_RECORDS, NOT_WITHIN, OUTSIDE_RANGE, RECORD_BROKEN, TABLE_OVER};
 use second::table::Table;
-
-/// A function of 0 to 10 columns, behind a few other records.
-fn some(random: &mut Random) -> Laid {
-    let columns = random.below(11);
-    let making = random.pick(&[Making::Cubes, Making::Records]);
-    let free = random.below(2) == 0;
-    let roots = making.roots(random, columns, free);
-    let most = random.pick(&[0, 2, 9]);
-    let earlier = good(random, columns, most);
-    Laid::over(random, columns, &earlier, roots)
-}
 
 /// A check of the function's own list.
 fn own(random: &mut Random, laid: &Laid) -> Check {
@@ -47,27 +38,12 @@ fn columns_over_16() {
         // All that is asked of records and cubes is kept at 16 columns too.
         check.columns = 16;
         assert_eq!(tally.check("16 columns", &check).number, DONE);
-        let (kind, over) = random.pick(&[
-            ("17 columns", 17),
-            ("18 columns", 18),
-            ("the greatest number of columns", 65_535),
-        ]);
+        let (kind, over) = random.pick(&OF_COLUMNS);
         check.columns = over;
         refused(&mut tally, kind, &check, COLUMNS_OVER, 0);
     }
-    let kinds = ["17 columns", "18 columns", "the greatest number of columns"];
-    tally.assert_checked(&kinds, 100);
+    tally.assert_checked(&OF_COLUMNS.map(|(kind, _)| kind), 100);
 }
-
-const OF_LENGTH: [&str; 7] = [
-    "count one over the length",
-    "the greatest count",
-    "4,097 records",
-    "4,097 records in use",
-    "one slice longer",
-    "one slice shorter",
-    "one slice empty",
-];
 
 #[test]
 fn a_table_over_its_length() {
@@ -76,27 +52,8 @@ fn a_table_over_its_length() {
     for round in 0..3_500 {
         let laid = some(&mut random);
         let mut check = own(&mut random, &laid);
-        let length = check.table.level.len() + 1;
-        check.table = lent(&mut random, &laid.in_use, length);
-        let table = &mut check.table;
-        let slice = match random.below(3) {
-            0 => &mut table.level,
-            1 => &mut table.low,
-            _ => &mut table.high,
-        };
         let kind = OF_LENGTH[round % OF_LENGTH.len()];
-        match kind {
-            "count one over the length" => check.count = length + 1,
-            "the greatest count" => check.count = usize::MAX,
-            "4,097 records" => *table = lent(&mut random, &laid.in_use, MOST_RECORDS + 1),
-            "4,097 records in use" => {
-                *table = lent(&mut random, &laid.in_use, MOST_RECORDS + 1);
-                check.count = MOST_RECORDS + 1;
-            }
-            "one slice longer" => slice.push(random.any()),
-            "one slice shorter" => slice.truncate(length - 1),
-            _ => slice.clear(),
-        }
+        break_length(&mut random, kind, &laid, &mut check);
         refused(&mut tally, kind, &check, TABLE_OVER, 0);
     }
     tally.assert_checked(&OF_LENGTH, 500);
@@ -153,8 +110,6 @@ fn a_record_that_breaks_its_rule() {
     tally.assert_checked(&Damage::ALL.map(Damage::name), 40);
 }
 
-const OF_RANGE: [&str; 3] = ["lower root", "upper root", "both roots"];
-
 #[test]
 fn roots_out_of_range() {
     let mut random = Random::new(106);
@@ -162,15 +117,8 @@ fn roots_out_of_range() {
     for round in 0..3_000 {
         let laid = some(&mut random);
         let mut check = own(&mut random, &laid);
-        let past = laid.count() as u16 + 2;
-        let number = random.pick(&[past, past + 1, 65_535]);
         let kind = OF_RANGE[round % OF_RANGE.len()];
-        if kind != "upper root" {
-            check.lower = number;
-        }
-        if kind != "lower root" {
-            check.upper = number;
-        }
+        break_range(&mut random, kind, &laid, &mut check);
         refused(&mut tally, kind, &check, OUTSIDE_RANGE, 0);
     }
     tally.assert_checked(&OF_RANGE, 1_000);
@@ -313,20 +261,8 @@ fn several_faults_at_once() {
         faults.retain(|_| random.below(3) == 0);
         let mut laid = some(&mut random);
         let mut list = laid.list();
-        if faults.contains(&NOT_WITHIN) {
-            let table = Table::of(laid.columns, &laid.in_use);
-            let numbers = table.count() + 2;
-            let (lower, upper) = (random.below(numbers), random.below(numbers));
-            if table.function(lower).within(&table.function(upper)) {
-                continue;
-            }
-            (laid.lower, laid.upper) = (lower as u16, upper as u16);
-        }
-        if faults.contains(&RECORD_BROKEN) {
-            let damage = random.pick(&Damage::ALL);
-            if !damage.inflict(&mut random, laid.columns, &mut laid.in_use) {
-                continue;
-            }
+        if !break_laid(&mut random, &faults, &mut laid) {
+            continue;
         }
         if faults.contains(&LIST_OVER) {
             list.resize(MOST_CUBES + 1, 0);
@@ -338,24 +274,7 @@ fn several_faults_at_once() {
             returned = place + 1;
         }
         let mut check = laid.checked(&mut random, laid.count(), list);
-        if faults.contains(&OUTSIDE_RANGE) {
-            let past = laid.count() as u16 + 2;
-            if random.below(2) == 0 {
-                check.lower = past;
-            } else {
-                check.upper = past;
-            }
-        }
-        if faults.contains(&TABLE_OVER) {
-            match random.below(3) {
-                0 => check.count += 1 + random.below(3),
-                1 => check.table.high.push(0),
-                _ => check.table = lent(&mut random, &laid.in_use, MOST_RECORDS + 1),
-            }
-        }
-        if faults.contains(&COLUMNS_OVER) {
-            check.columns = random.pick(&[17, 18, 255, 65_535]);
-        }
+        break_call(&mut random, &faults, &laid, &mut check);
         let number = match faults.first() {
             Some(&CUBE_MALFORMED) => {
                 refused(&mut tally, "faults", &check, CUBE_MALFORMED, returned);

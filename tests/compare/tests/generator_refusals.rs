@@ -1,7 +1,9 @@
 //! Each refusal of the generator from 1 to 6, on both sides of its boundary, and several faults at
 //! once: the first that applies is given, and nothing changes.
 
-use compare::functions::{room, Laid, Making};
+use compare::faults::{break_call, break_laid, break_length, break_range, some};
+use compare::faults::{OF_COLUMNS, OF_LENGTH, OF_RANGE};
+use compare::functions::{room, Laid};
 use compare::generation::{Generation, Listed};
 use compare::random::Random;
 use compare::tables::{good, lent, Damage};
@@ -10,17 +12,6 @@ use second::refusal::{COLUMNS_OVER, DONE, LIST_OVER, LIST_ROOM_LACKING};
 use second::refusal::{MOST_CUBES, MOST_RECORDS, NOT_WITHIN, OUTSIDE_RANGE};
 use second::refusal::{RECORD_BROKEN, TABLE_OVER};
 use second::table::Table;
-
-/// A function of 0 to 10 columns, behind a few other records.
-fn some(random: &mut Random) -> Laid {
-    let columns = random.below(11);
-    let making = random.pick(&[Making::Cubes, Making::Records]);
-    let free = random.below(2) == 0;
-    let roots = making.roots(random, columns, free);
-    let most = random.pick(&[0, 2, 9]);
-    let earlier = good(random, columns, most);
-    Laid::over(random, columns, &earlier, roots)
-}
 
 /// A call with all that is needed and a little more.
 fn ample(random: &mut Random, laid: &Laid) -> Generation {
@@ -52,27 +43,12 @@ fn columns_over_16() {
         let laid = some(&mut random);
         let mut generation = ample(&mut random, &laid);
         assert_eq!(tally.generate("done", &generation).number, DONE);
-        let (kind, over) = random.pick(&[
-            ("17 columns", 17),
-            ("18 columns", 18),
-            ("the greatest number of columns", 65_535),
-        ]);
+        let (kind, over) = random.pick(&OF_COLUMNS);
         generation.columns = over;
         refused(&mut tally, kind, &generation, COLUMNS_OVER);
     }
-    let kinds = ["17 columns", "18 columns", "the greatest number of columns"];
-    tally.assert_generated(&kinds, 200);
+    tally.assert_generated(&OF_COLUMNS.map(|(kind, _)| kind), 200);
 }
-
-const OF_LENGTH: [&str; 7] = [
-    "count one over the length",
-    "the greatest count",
-    "4,097 records",
-    "4,097 records in use",
-    "one slice longer",
-    "one slice shorter",
-    "one slice empty",
-];
 
 #[test]
 fn a_table_over_its_length() {
@@ -81,27 +57,8 @@ fn a_table_over_its_length() {
     for round in 0..3_500 {
         let laid = some(&mut random);
         let mut generation = ample(&mut random, &laid);
-        let length = generation.table.level.len() + 1;
-        generation.table = lent(&mut random, &laid.in_use, length);
-        let table = &mut generation.table;
-        let slice = match random.below(3) {
-            0 => &mut table.level,
-            1 => &mut table.low,
-            _ => &mut table.high,
-        };
         let kind = OF_LENGTH[round % OF_LENGTH.len()];
-        match kind {
-            "count one over the length" => generation.count = length + 1,
-            "the greatest count" => generation.count = usize::MAX,
-            "4,097 records" => *table = lent(&mut random, &laid.in_use, 4_097),
-            "4,097 records in use" => {
-                *table = lent(&mut random, &laid.in_use, 4_097);
-                generation.count = 4_097;
-            }
-            "one slice longer" => slice.push(random.any()),
-            "one slice shorter" => slice.truncate(length - 1),
-            _ => slice.clear(),
-        }
+        break_length(&mut random, kind, &laid, &mut generation);
         refused(&mut tally, kind, &generation, TABLE_OVER);
     }
     tally.assert_generated(&OF_LENGTH, 500);
@@ -139,8 +96,6 @@ fn a_record_that_breaks_its_rule() {
     tally.assert_generated(&Damage::ALL.map(Damage::name), 40);
 }
 
-const OF_RANGE: [&str; 3] = ["lower root", "upper root", "both roots"];
-
 #[test]
 fn roots_out_of_range() {
     let mut random = Random::new(65);
@@ -148,15 +103,8 @@ fn roots_out_of_range() {
     for round in 0..3_000 {
         let laid = some(&mut random);
         let mut generation = ample(&mut random, &laid);
-        let past = laid.count() as u16 + 2;
-        let number = random.pick(&[past, past + 1, 65_535]);
         let kind = OF_RANGE[round % OF_RANGE.len()];
-        if kind != "upper root" {
-            generation.lower = number;
-        }
-        if kind != "lower root" {
-            generation.upper = number;
-        }
+        break_range(&mut random, kind, &laid, &mut generation);
         refused(&mut tally, kind, &generation, OUTSIDE_RANGE);
     }
     tally.assert_generated(&OF_RANGE, 1_000);
@@ -233,20 +181,8 @@ fn several_faults_at_once() {
             }
         }
         let mut laid = some(&mut random);
-        if faults.contains(&NOT_WITHIN) {
-            let table = Table::of(laid.columns, &laid.in_use);
-            let numbers = table.count() + 2;
-            let (lower, upper) = (random.below(numbers), random.below(numbers));
-            if table.function(lower).within(&table.function(upper)) {
-                continue;
-            }
-            (laid.lower, laid.upper) = (lower as u16, upper as u16);
-        }
-        if faults.contains(&RECORD_BROKEN) {
-            let damage = random.pick(&Damage::ALL);
-            if !damage.inflict(&mut random, laid.columns, &mut laid.in_use) {
-                continue;
-            }
+        if !break_laid(&mut random, &faults, &mut laid) {
+            continue;
         }
         let cubes = if faults.contains(&LIST_OVER) {
             MOST_CUBES + 1
@@ -254,24 +190,7 @@ fn several_faults_at_once() {
             0
         };
         let mut generation = laid.asked(&mut random, laid.count(), cubes);
-        if faults.contains(&OUTSIDE_RANGE) {
-            let past = laid.count() as u16 + 2;
-            if random.below(2) == 0 {
-                generation.lower = past;
-            } else {
-                generation.upper = past;
-            }
-        }
-        if faults.contains(&TABLE_OVER) {
-            match random.below(3) {
-                0 => generation.count += 1 + random.below(3),
-                1 => generation.table.high.push(0),
-                _ => generation.table = lent(&mut random, &laid.in_use, 4_097),
-            }
-        }
-        if faults.contains(&COLUMNS_OVER) {
-            generation.columns = random.pick(&[17, 18, 255, 65_535]);
-        }
+        break_call(&mut random, &faults, &laid, &mut generation);
         let number = match faults.first() {
             Some(&number) => {
                 refused(&mut tally, "faults", &generation, number);
