@@ -5,6 +5,11 @@ mod common;
 use common::{run, Desk, EXAMPLE, EXAMPLE_LIST};
 use std::fs;
 use std::os::unix::fs::{FileTypeExt, PermissionsExt};
+use std::os::unix::process::CommandExt;
+use std::process::Command;
+
+/// The number of the user without rights.
+const NOBODY: u32 = 65_534;
 
 const SUMMARY: &str = "2 rows, 2 literals, 7 of 4,096 records used\n";
 
@@ -120,21 +125,31 @@ fn what_cannot_be_written() {
     assert_eq!(desk.text("file"), "kept");
 }
 
+/// A user who may write into every folder runs the binary as one who may not.
 #[test]
 fn a_folder_without_rights() {
-    let desk = Desk::with(&[("f.pla", EXAMPLE), ("shut/old.pla", "kept")]);
-    let shut = desk.path("shut");
-    fs::set_permissions(&shut, fs::Permissions::from_mode(0o500)).unwrap();
+    let folder = std::env::temp_dir().join(format!("dowrhesk-rights-{}", std::process::id()));
+    let shut = folder.join("shut");
+    fs::create_dir_all(&shut).unwrap();
+    fs::write(folder.join("f.pla"), EXAMPLE).unwrap();
+    fs::write(shut.join("old.pla"), "kept").unwrap();
+    let binary = folder.join("dowrhesk");
+    fs::copy(env!("CARGO_BIN_EXE_dowrhesk"), &binary).unwrap();
+    fs::set_permissions(&folder, fs::Permissions::from_mode(0o755)).unwrap();
+    fs::set_permissions(&shut, fs::Permissions::from_mode(0o555)).unwrap();
+    let mut command = Command::new(&binary);
+    command.args(["list", "f.pla", "-o", "shut/old.pla"]);
     if fs::write(shut.join("probe"), "").is_ok() {
         fs::remove_file(shut.join("probe")).unwrap();
-        println!("skipped: this user writes into every folder");
-        return;
+        command.uid(NOBODY).gid(NOBODY);
     }
-    let listed = desk.run(&["list", "f.pla", "-o", "shut/old.pla"]);
-    assert_eq!(listed.status, 2);
-    assert!(listed.err.starts_with("shut/old.pla: cannot be written: "));
-    assert_eq!(desk.text("shut/old.pla"), "kept");
-    fs::set_permissions(&shut, fs::Permissions::from_mode(0o700)).unwrap();
+    let listed = command.current_dir(&folder).output().unwrap();
+    let said = "shut/old.pla: cannot be written: Permission denied (os error 13)\n";
+    assert_eq!(String::from_utf8_lossy(&listed.stderr), said);
+    assert_eq!(listed.status.code(), Some(2));
+    assert_eq!(fs::read_to_string(shut.join("old.pla")).unwrap(), "kept");
+    fs::set_permissions(&shut, fs::Permissions::from_mode(0o755)).unwrap();
+    fs::remove_dir_all(folder).unwrap();
 }
 
 #[test]
