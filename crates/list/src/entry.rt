@@ -44,11 +44,15 @@ pub fn generate(
         return Generated::Refused(broken, 0);
     }
     clear_room(room);
+    let mut memo = [0u64; 1024];
+    let mut past = [0u64; 1536];
     let listed = generator::generate_at(
         level,
         low,
         high,
         room,
+        &mut memo,
+        &mut past,
         columns,
         count,
         0,

@@ -3,11 +3,14 @@ ghost use mathlib.Core.Path.{_≡_};
 ghost use Prim.Native.Nat.{ℕ, suc, _+_, _<_};
 ghost use lib.ListN.{set};
 ghost use Rattle.graph.specs.Table.{tableOf, fnOf};
-ghost use Rattle.list.specs.Generating.{Listable, Expandable, ListsOf, ListedOf};
-use crate::run::Both;
-use crate::step;
-use crate::step::Kept;
+ghost use Rattle.list.specs.Generating.{Listable, Expandable, ListsOf, ListedOf, Memos, MemosAfterLists, MemosAfter};
 use graph::build::Made;
+use listmemo::copy;
+use listmemo::past;
+use listmemo::past::Past;
+use steps::run::Both;
+use steps::step;
+use steps::step::Kept;
 
 // The covers of the three lists, the count of records in use and the place after the lists; or no room for nodes.
 pub enum Lists {
@@ -37,6 +40,8 @@ fn expand(
     low: &mut [u16],
     high: &mut [u16],
     room: &mut [u32],
+    memo: &mut [u64],
+    past: &mut [u64],
     columns: u16,
     count: usize,
     at: usize,
@@ -46,13 +51,14 @@ fn expand(
     l: u16,
     u: u16,
 ) -> Lists
-    requires { ⌜ Expandable columns count (now level) (now low) (now high) at chosen weight k l u ⌝ }
-    ensures { λ r. ⌜ ((m : ℕ) → k + suc m ≡ columns → ListsOf columns count (now (level .entry)) (now (low .entry)) (now (high .entry)) (now (level .exit)) (now (low .exit)) (now (high .exit)) (now (room .entry)) (now (room .exit)) at chosen weight k m (fnOf (tableOf (now (level .entry)) (now (low .entry)) (now (high .entry))) k (suc m) l) (fnOf (tableOf (now (level .entry)) (now (low .entry)) (now (high .entry))) k (suc m) u) r) ⌝ }
+    requires { ⌜ Expandable columns count (now level) (now low) (now high) at chosen weight k l u × Memos columns count (now level) (now low) (now high) (now room) at (now memo) (now past) ⌝ }
+    ensures { λ r. ⌜ ((m : ℕ) → k + suc m ≡ columns → ListsOf columns count (now (level .entry)) (now (low .entry)) (now (high .entry)) (now (level .exit)) (now (low .exit)) (now (high .exit)) (now (room .entry)) (now (room .exit)) at chosen weight k m (fnOf (tableOf (now (level .entry)) (now (low .entry)) (now (high .entry))) k (suc m) l) (fnOf (tableOf (now (level .entry)) (now (low .entry)) (now (high .entry))) k (suc m) u) r) × MemosAfterLists columns (now (level .exit)) (now (low .exit)) (now (high .exit)) (now (room .exit)) (now (memo .exit)) (now (past .exit)) r ⌝ }
 {
     let Kept::Done(l0, l1, u0, u1, p0, p1, c0) = step::keep(
         level,
         low,
         high,
+        memo,
         columns,
         count,
         k,
@@ -66,6 +72,8 @@ fn expand(
         low,
         high,
         room,
+        memo,
+        past,
         columns,
         c0,
         at,
@@ -82,6 +90,8 @@ fn expand(
         low,
         high,
         room,
+        memo,
+        past,
         columns,
         ca,
         to_b,
@@ -97,6 +107,7 @@ fn expand(
         level,
         low,
         high,
+        memo,
         columns,
         cb,
         k + 1,
@@ -114,6 +125,8 @@ fn expand(
         low,
         high,
         room,
+        memo,
+        past,
         columns,
         cr,
         to_c,
@@ -128,12 +141,14 @@ fn expand(
     Lists::Done(g0, g1, gs, cc, end)
 }
 
-// The list for the roots L and U over the columns from column k on, and its cover.
+// The list for the roots L and U over the columns from column k on, and its cover. A list found before is copied.
 pub fn generate_at(
     level: &mut [u16],
     low: &mut [u16],
     high: &mut [u16],
     room: &mut [u32],
+    memo: &mut [u64],
+    past: &mut [u64],
     columns: u16,
     count: usize,
     at: usize,
@@ -143,8 +158,8 @@ pub fn generate_at(
     l: u16,
     u: u16,
 ) -> Listed
-    requires { ⌜ Listable columns count (now level) (now low) (now high) at chosen weight k l u ⌝ }
-    ensures { λ r. ⌜ ((m : ℕ) → k + m ≡ columns → ListedOf columns count (now (level .entry)) (now (low .entry)) (now (high .entry)) (now (level .exit)) (now (low .exit)) (now (high .exit)) (now (room .entry)) (now (room .exit)) at chosen weight k m (fnOf (tableOf (now (level .entry)) (now (low .entry)) (now (high .entry))) k m l) (fnOf (tableOf (now (level .entry)) (now (low .entry)) (now (high .entry))) k m u) r) ⌝ }
+    requires { ⌜ Listable columns count (now level) (now low) (now high) at chosen weight k l u × Memos columns count (now level) (now low) (now high) (now room) at (now memo) (now past) ⌝ }
+    ensures { λ r. ⌜ ((m : ℕ) → k + m ≡ columns → ListedOf columns count (now (level .entry)) (now (low .entry)) (now (high .entry)) (now (level .exit)) (now (low .exit)) (now (high .exit)) (now (room .entry)) (now (room .exit)) at chosen weight k m (fnOf (tableOf (now (level .entry)) (now (low .entry)) (now (high .entry))) k m l) (fnOf (tableOf (now (level .entry)) (now (low .entry)) (now (high .entry))) k m u) r) × MemosAfter columns (now (level .exit)) (now (low .exit)) (now (high .exit)) (now (room .exit)) (now (memo .exit)) (now (past .exit)) r ⌝ }
 {
     if l == 0 {
         return Listed::Done(0, count, at);
@@ -153,11 +168,17 @@ pub fn generate_at(
         put(room, at, chosen);
         return Listed::Done(1, count, at + 1);
     }
+    if let Past::Is(g, from, size, old) = past::find(past, l, u, k) {
+        copy::copy(room, from, at, size, old, chosen);
+        return Listed::Done(g, count, at + size);
+    }
     let Lists::Done(g0, g1, gs, c, end) = expand(
         level,
         low,
         high,
         room,
+        memo,
+        past,
         columns,
         count,
         at,
@@ -169,8 +190,9 @@ pub fn generate_at(
     ) else {
         return Listed::Full;
     };
-    let Made::Done(g, d) = step::join(level, low, high, columns, c, k, g0, g1, gs) else {
+    let Made::Done(g, d) = step::join(level, low, high, memo, columns, c, k, g0, g1, gs) else {
         return Listed::Full;
     };
+    past::keep(past, l, u, k, g, at, end - at, chosen);
     Listed::Done(g, d, end)
 }

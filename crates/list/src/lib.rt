@@ -2,5 +2,3 @@
 pub mod check;
 pub mod entry;
 pub mod generator;
-pub mod run;
-pub mod step;

@@ -1,10 +1,10 @@
--- `list::run::two` meets its contract: each way out is a law of `Runs`.
+-- `steps::run::two` meets its contract: each way out is a law of `Runs`.
 use mathlib.Core.Path.{_∙_}
 use Rattle.graph.proofs.Applying.{Promise}
-use Rattle.list.proofs.Runs.{first-full, second-roots, second-full, both-done}
+use Rattle.steps.proofs.Runs.{first-full, second-roots, second-full, both-done}
 use borrow.Author.Needs.{needs}
-use Rattle.list.proofs.run.two.Statement.{statement}
-use Rattle.list.proofs.run.two.Tie as tie
+use Rattle.steps.proofs.run.two.Statement.{statement}
+use Rattle.steps.proofs.run.two.Tie as tie
 
 apply-requires : tie.Need-apply-requires
 apply-requires c κs = c .before .before .before .before .before .before .pre .first

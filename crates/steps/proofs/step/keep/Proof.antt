@@ -1,9 +1,9 @@
--- `list::step::keep` meets its contract: the halves name the halves of the roots, and the rest is `keep-full` or `keep-done`.
+-- `steps::step::keep` meets its contract: the halves name the halves of the roots, and the rest is `keep-full` or `keep-done`.
 use Rattle.graph.proofs.Columns.{root-held, first-root, second-root}
-use Rattle.list.proofs.Stepping.{TwoPromise, keep-roots, keep-full, keep-done}
+use Rattle.steps.proofs.Stepping.{TwoPromise, keep-roots, keep-full, keep-done}
 use borrow.Author.Needs.{needs}
-use Rattle.list.proofs.step.keep.Statement.{statement}
-use Rattle.list.proofs.step.keep.Tie as tie
+use Rattle.steps.proofs.step.keep.Statement.{statement}
+use Rattle.steps.proofs.step.keep.Tie as tie
 
 split-requires : tie.Need-split-requires
 split-requires c κs = root-held (first-root (c .before .before .before .before .before .before .pre .roots))

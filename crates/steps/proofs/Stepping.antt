@@ -20,11 +20,11 @@ use Rattle.graph.specs.declared.build.Made.the-variants as made
 use Rattle.graph.proofs.Numbers.{half-refers}
 use Rattle.graph.proofs.Agree.{agree-through}
 use Rattle.graph.specs.Run.{Run, Short, Names}
-use Rattle.list.specs.Run.{FourRoots, TwoDone, TwoOf, resultOf}
-use Rattle.list.specs.Generating.{Stepping, namedKept, KeptOf, SixRoots, namedLeft, RestOf, ThreeRoots}
-use Rattle.list.specs.declared.run.Both.{Both}
-use Rattle.list.specs.declared.run.Both.the-variants as both
-use Rattle.list.specs.declared.step.Kept.the-variants as kept
+use Rattle.steps.specs.Run.{FourRoots, TwoDone, TwoOf, resultOf}
+use Rattle.steps.specs.Step.{Stepping, namedKept, KeptOf, SixRoots, namedLeft, RestOf, ThreeRoots}
+use Rattle.steps.specs.declared.run.Both.{Both}
+use Rattle.steps.specs.declared.run.Both.the-variants as both
+use Rattle.steps.specs.declared.step.Kept.the-variants as kept
 use Rattle.graph.proofs.Runs.{run-then, run-short, names-stay, short-more}
 
 -- The operation of two named numbers is that of what they name.

@@ -13,8 +13,8 @@ use Rattle.graph.specs.declared.build.Made.{Made}
 use Rattle.graph.specs.declared.build.Made.the-variants as made
 use Rattle.graph.proofs.Applying.{Promise}
 use Rattle.graph.proofs.Runs.{built-run, built-names, lacking-short, short-more, run-then, run-short, stays, stays-fn, names-stay}
-use Rattle.list.specs.Run.{FourRoots, TwoDone, TwoOf, resultOf}
-use Rattle.list.specs.declared.run.Both.the-variants.{Done, Full}
+use Rattle.steps.specs.Run.{FourRoots, TwoDone, TwoOf, resultOf}
+use Rattle.steps.specs.declared.run.Both.the-variants.{Done, Full}
 
 -- Two operations one after the other.
 module _ (n : ℕ) (c : ℕ) (v : List ℕ) (l : List ℕ) (h : List ℕ) (k : ℕ) (op : Op) (a : ℕ) (b : ℕ) (then : Op) (d : ℕ) (e : ℕ) (p : FourRoots n c v l h k a b d e) where

@@ -8,8 +8,8 @@ use Rattle.graph.specs.Sound.{RootedTwice}
 use Rattle.graph.specs.Run.{Run, Short, Names}
 use Rattle.graph.specs.Operation.{opOf}
 use Rattle.graph.specs.declared.operation.Op.{Op}
-use Rattle.list.specs.declared.run.Both.{Both}
-use Rattle.list.specs.declared.run.Both.the-variants.{Done, Full}
+use Rattle.steps.specs.declared.run.Both.{Both}
+use Rattle.steps.specs.declared.run.Both.the-variants.{Done, Full}
 
 -- What two operations ask: both pairs of operands are in use.
 pub record FourRoots (n : ℕ) (c : ℕ) (v : List ℕ) (l : List ℕ) (h : List ℕ) (k : ℕ) (a : ℕ) (b : ℕ) (d : ℕ) (e : ℕ) : Type 0 where

@@ -1,9 +1,9 @@
--- `list::step::rest` meets its contract: what the halves leave, then both joined.
+-- `steps::step::rest` meets its contract: what the halves leave, then both joined.
 use mathlib.Core.Path.{_∙_}
-use Rattle.list.proofs.Stepping.{TwoPromise, left-roots, rest-full, top-roots, rest-done}
+use Rattle.steps.proofs.Stepping.{TwoPromise, left-roots, rest-full, top-roots, rest-done}
 use borrow.Author.Needs.{needs}
-use Rattle.list.proofs.step.rest.Statement.{statement}
-use Rattle.list.proofs.step.rest.Tie as tie
+use Rattle.steps.proofs.step.rest.Statement.{statement}
+use Rattle.steps.proofs.step.rest.Tie as tie
 
 two-requires : tie.Need-two-requires
 two-requires c κs = left-roots _ _ _ _ _ _ _ _ _ _ _ _ (c .before .before .before .before .before .before .pre)

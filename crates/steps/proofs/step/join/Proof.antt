@@ -1,9 +1,9 @@
--- `list::step::join` meets its contract: the covers of both halves, then the node of them.
+-- `steps::step::join` meets its contract: the covers of both halves, then the node of them.
 use mathlib.Core.Path.{_∙_}
-use Rattle.list.proofs.Stepping.{TwoPromise, cover-roots, join-full, join-halves, join-done}
+use Rattle.steps.proofs.Stepping.{TwoPromise, cover-roots, join-full, join-halves, join-done}
 use borrow.Author.Needs.{needs}
-use Rattle.list.proofs.step.join.Statement.{statement}
-use Rattle.list.proofs.step.join.Tie as tie
+use Rattle.steps.proofs.step.join.Statement.{statement}
+use Rattle.steps.proofs.step.join.Tie as tie
 
 add-two : tie.Need-add-two
 add-two c = search needs

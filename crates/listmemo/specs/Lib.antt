@@ -1,0 +1,3 @@
+-- Lists found before, and their copies in the list room.
+pub mod Copy
+pub mod Past
