@@ -13,11 +13,13 @@ use Rattle.rule.specs.Cube.{sign0, sign1}
 use Rattle.rule.specs.Rule.{P0, P1, G0, G1, R0, R1, R0orR1, U0andU1, listA, listB, put, listOf}
 use Rattle.rule.proofs.Cover.{list-covers, within-A, within-B, within-C}
 use Rattle.graph.specs.Run.{Short}
-use Rattle.list.specs.Generating.{numbersUnder, namedA, namedB, namedRest, namedC, KeptDone, SixRoots, namedLeft, RestOf, Listable, Expandable, ListsFull, ListedFull}
-use Rattle.list.specs.declared.run.Both.{Both}
-use Rattle.list.specs.declared.run.Both.the-variants as both
+use Rattle.steps.specs.Step.{KeptDone, SixRoots, namedLeft, RestOf}
+use Rattle.listmemo.specs.Copy.{numbersUnder}
+use Rattle.list.specs.Generating.{namedA, namedB, namedRest, namedC, Listable, Expandable, ListsFull, ListedFull}
+use Rattle.steps.specs.declared.run.Both.{Both}
+use Rattle.steps.specs.declared.run.Both.the-variants as both
 use Rattle.graph.proofs.Runs.{run-short, short-more}
-use Rattle.list.proofs.Writing.{list-bound}
+use Rattle.listmemo.proofs.Writing.{list-bound}
 use Rattle.list.proofs.Listing.{spread, next-listable, short-A, short-B, short-rest, StateA, StateB, StateR}
 
 -- Places: what the lists so far have taken leaves room to count the next.

@@ -23,7 +23,8 @@ use Rattle.graph.proofs.Refusals.{broken-here, kept-next, none-broken, broken-b
 use Rattle.graph.proofs.Roots.{input-below, past-input, input-sound, input-inside, input-roots}
 use Rattle.graph.proofs.Clearing.{cleared-alike}
 use Rattle.graph.proofs.Records.{functions-length}
-use Rattle.list.specs.Generating.{numbersUnder, Listable, ListedDone, ListedFull, ListedOf}
+use Rattle.listmemo.specs.Copy.{numbersUnder}
+use Rattle.list.specs.Generating.{Listable, ListedDone, ListedFull, ListedOf}
 use Rattle.list.specs.Entry.{numbersOf, numbersFor, lower, upper, theList, roomConditions, refusal, answerFor, changesNothing, tableLeft, roomLeft, Generates}
 use Rattle.list.specs.declared.generator.Listed.{Listed}
 use Rattle.list.specs.declared.generator.Listed.the-variants as listed

@@ -25,7 +25,9 @@ use Rattle.graph.specs.declared.build.Made.the-variants as made
 use Rattle.graph.proofs.Tests.{constant-refers}
 use Rattle.graph.proofs.Numbers.{fn-zero, fn-one, equal-numbers}
 use Rattle.graph.specs.Run.{Run, Short, Names}
-use Rattle.list.specs.Generating.{numbersUnder, namedC, namedRest, namedB, namedA, namedKept, ThreeRoots, Listable, Expandable, ListsDone, ListsFull, ListsOf, ListedDone, ListedFull, ListedOf}
+use Rattle.steps.specs.Step.{namedKept, ThreeRoots}
+use Rattle.listmemo.specs.Copy.{numbersUnder}
+use Rattle.list.specs.Generating.{namedC, namedRest, namedB, namedA, Listable, Expandable, ListsDone, ListsFull, ListsOf, ListedDone, ListedFull, ListedOf}
 use Rattle.list.specs.declared.generator.Lists.{Lists}
 use Rattle.list.specs.declared.generator.Lists.the-variants as lists
 use Rattle.list.specs.declared.generator.Listed.the-variants as listed

@@ -15,15 +15,17 @@ use Rattle.rule.specs.Rule.{P0, P1, G0, G1, R0, R1, R0orR1, U0andU1, G*, listA,
 use Rattle.graph.specs.Table.{tableOf, fnOf}
 use Rattle.graph.specs.Sound.{Sound}
 use Rattle.graph.specs.Run.{Run, Short, Names}
-use Rattle.list.specs.Generating.{numbersUnder, namedKept, namedA, namedB, namedRest, namedC, KeptDone, namedLeft, RestDone, RestOf, Listable, ListsDone, ListedDone, ListedFull, ListedOf}
-use Rattle.list.specs.declared.run.Both.{Both}
-use Rattle.list.specs.declared.run.Both.the-variants as both
-use Rattle.list.specs.declared.step.Kept.the-variants as kept
+use Rattle.steps.specs.Step.{namedKept, KeptDone, namedLeft, RestDone, RestOf}
+use Rattle.listmemo.specs.Copy.{numbersUnder}
+use Rattle.list.specs.Generating.{namedA, namedB, namedRest, namedC, Listable, ListsDone, ListedDone, ListedFull, ListedOf}
+use Rattle.steps.specs.declared.run.Both.{Both}
+use Rattle.steps.specs.declared.run.Both.the-variants as both
+use Rattle.steps.specs.declared.step.Kept.the-variants as kept
 use Rattle.list.specs.declared.generator.Lists.the-variants as lists
 use Rattle.list.specs.declared.generator.Listed.{Listed}
 use Rattle.list.specs.declared.generator.Listed.the-variants as listed
 use Rattle.graph.proofs.Runs.{run-then, run-present, names-stay, names-there, short-more}
-use Rattle.list.proofs.Writing.{signNumber, under-sign, under-append, under-length, sets-append, put-length, result-length}
+use Rattle.listmemo.proofs.Writing.{signNumber, under-sign, under-append, under-length, sets-append, put-length, result-length}
 
 -- What a list promises of two numbers over the columns from column k on.
 unfoldable pub ListPromise : ℕ → ℕ → List ℕ → List ℕ → List ℕ → List ℕ → ℕ → ℕ → ℕ → ℕ → ℕ → ℕ → List ℕ → List ℕ → List ℕ → List ℕ → Listed → Type 0

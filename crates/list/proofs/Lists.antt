@@ -5,11 +5,12 @@ use Prim.Native.Nat.{ℕ, suc, _+_, _-_, _*_, _^_, _≤_}
 use native.Mathlib.Omega.{arith}
 use Rattle.rule.specs.Rule.{G0, G1, listOf}
 use Rattle.graph.specs.Table.{tableOf, fnOf}
-use Rattle.list.specs.Generating.{Stepping, KeptDone, KeptOf, SixRoots, RestOf, Listable, Expandable, ListsOf}
-use Rattle.list.specs.declared.run.Both.{Both}
-use Rattle.list.specs.declared.run.Both.the-variants as both
-use Rattle.list.specs.declared.step.Kept.{Kept}
-use Rattle.list.specs.declared.step.Kept.the-variants as kept
+use Rattle.steps.specs.Step.{Stepping, KeptDone, KeptOf, SixRoots, RestOf}
+use Rattle.list.specs.Generating.{Listable, Expandable, ListsOf}
+use Rattle.steps.specs.declared.run.Both.{Both}
+use Rattle.steps.specs.declared.run.Both.the-variants as both
+use Rattle.steps.specs.declared.step.Kept.{Kept}
+use Rattle.steps.specs.declared.step.Kept.the-variants as kept
 use Rattle.list.specs.declared.generator.Lists.the-variants as lists
 use Rattle.list.specs.declared.generator.Listed.{Listed}
 use Rattle.list.specs.declared.generator.Listed.the-variants as listed

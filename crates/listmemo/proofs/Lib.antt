@@ -1,1 +1,2 @@
--- The laws of lists found before.
+-- The laws of lists found before and of their copies, one concept to a file.
+pub mod Writing

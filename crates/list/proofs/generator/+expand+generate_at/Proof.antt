@@ -17,9 +17,9 @@ use Rattle.list.proofs.generator.generate_at.Reads as generate-at
 use Rattle.list.proofs.generator.generate_at.Kinds as generate-at-kinds
 use Rattle.list.proofs.generator.+expand+generate_at.Lts-generate_at as generate-at-lts
 use Rattle.list.proofs.generator.put.Reads as put-reads
-use Rattle.list.proofs.step.join.Reads as join-reads
-use Rattle.list.proofs.step.keep.Reads as keep-reads
-use Rattle.list.proofs.step.rest.Reads as rest-reads
+use Rattle.steps.proofs.step.join.Reads as join-reads
+use Rattle.steps.proofs.step.keep.Reads as keep-reads
+use Rattle.steps.proofs.step.rest.Reads as rest-reads
 use Rattle.list.proofs.generator.+expand+generate_at.{statement}
 use Rattle.list.proofs.generator.+expand+generate_at.Tie.{close}
 

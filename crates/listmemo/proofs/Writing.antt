@@ -13,7 +13,7 @@ use Rattle.rule.specs.Cube.{Sign, sign0, sign1, dash, Cube}
 use Rattle.rule.specs.Number.{onesOf, zerosOf, cubeNumber, isOne, isZero}
 use Rattle.rule.specs.Rule.{put, listA, listB, listC, result, listOf}
 use Rattle.rule.proofs.Steps.{by-step, list-step3, list-end}
-use Rattle.list.specs.Generating.{numbersUnder}
+use Rattle.listmemo.specs.Copy.{numbersUnder}
 
 -- The number of a sign in column 0.
 unfoldable pub signNumber : Sign → ℕ
