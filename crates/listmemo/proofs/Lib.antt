@@ -1,2 +1,5 @@
 -- The laws of lists found before and of their copies, one concept to a file.
+pub mod Copying
+pub mod Staying
+pub mod Stores
 pub mod Writing

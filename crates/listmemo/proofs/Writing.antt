@@ -21,7 +21,7 @@ signNumber sign0 = 65536
 signNumber sign1 = 1
 signNumber dash = 0
 
-cube-step : (s : Sign) (c : Cube) → cubeNumber (s ∷ c) ≡ signNumber s + 2 * cubeNumber c
+pub cube-step : (s : Sign) (c : Cube) → cubeNumber (s ∷ c) ≡ signNumber s + 2 * cubeNumber c
 unfolding cubeNumber onesOf zerosOf isOne isZero bit signNumber
 cube-step sign0 c = omega arith
 cube-step sign1 c = omega arith
