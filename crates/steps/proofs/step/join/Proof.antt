@@ -1,5 +1,6 @@
 -- `steps::step::join` meets its contract: the covers of both halves, then the node of them.
-use mathlib.Core.Path.{_∙_}
+use Rattle.memo.specs.Memo.{HoldsAfter}
+use Rattle.steps.proofs.Memos.{holds-both, node-holds}
 use Rattle.steps.proofs.Stepping.{TwoPromise, cover-roots, join-full, join-halves, join-done}
 use borrow.Author.Needs.{needs}
 use Rattle.steps.proofs.step.join.Statement.{statement}
@@ -9,7 +10,7 @@ add-two : tie.Need-add-two
 add-two c = search needs
 
 two-requires : tie.Need-two-requires
-two-requires c κs = cover-roots _ _ _ _ _ _ _ _ _ (c .before .before .before .before .before .before .pre)
+two-requires c κs = (cover-roots _ _ _ _ _ _ _ _ _ (c .before .before .before .before .before .before .before .before .pre .0), c .before .before .before .before .before .before .before .before .pre .1)
 
 enum-known-x : tie.Need-enum-known-x
 enum-known-x c = search needs
@@ -26,26 +27,32 @@ same-length-2 c = search needs
 same-length-3 : tie.Need-same-length-3
 same-length-3 c = search needs
 
+same-length-4 : tie.Need-same-length-4
+same-length-4 c = search needs
+
 returns : tie.Need-returns
-unfolding TwoPromise
-returns c = join-full _ _ _ _ _ _ _ _ _ (c .before .before .before .before .before .before .before .before .before .before .before .before .before .before .before .pre) _ _ _ (c .before .before .before .before .before .before .before .before .two .result) (c .before .before .before .before .before .before .before .before .two .ensures) (c .enum-told .given .1)
+unfolding TwoPromise HoldsAfter
+returns c = (join-full _ _ _ _ _ _ _ _ _ (c .before .before .before .before .before .before .before .before .before .before .before .before .before .before .before .before .before .before .before .pre .0) _ _ _ (c .before .before .before .before .before .before .before .before .before .before .two .result) (c .before .before .before .before .before .before .before .before .before .before .two .ensures .0) (c .enum-told .given .1), tt)
 
 make-requires : tie.Need-make-requires
 unfolding TwoPromise
-make-requires c κs = join-halves _ _ _ _ _ _ _ _ _ (c .before .before .before .before .before .before .before .before .before .before .before .before .before .before .before .before .before .before .before .pre) _ _ _ (c .before .before .before .before .before .before .before .before .before .before .before .before .two .result) (c .before .before .before .before .before .before .before .before .before .before .before .before .two .ensures) _ _ _ (c .before .before .before .before .x .given .1)
-
-same-length-4 : tie.Need-same-length-4
-same-length-4 c = c .before .before .before .before .before .before .make .kept .0 ∙ c .before .before .before .before .before .before .before .before .before .before .before .before .before .before .before .before .before .before .before .two .kept .0
+make-requires c κs = join-halves _ _ _ _ _ _ _ _ _ (c .before .before .before .before .before .before .before .before .before .before .before .before .before .before .before .before .before .before .before .before .before .before .before .pre .0) _ _ _ (c .before .before .before .before .before .before .before .before .before .before .before .before .before .before .two .result) (c .before .before .before .before .before .before .before .before .before .before .before .before .before .before .two .ensures .0) _ _ _ (c .before .before .before .before .x .given .1)
 
 same-length-5 : tie.Need-same-length-5
-same-length-5 c = c .before .before .before .before .before .before .make .kept .1 .0 ∙ c .before .before .before .before .before .before .before .before .before .before .before .before .before .before .before .before .before .before .before .two .kept .1 .0
+same-length-5 c = search needs
 
 same-length-6 : tie.Need-same-length-6
-same-length-6 c = c .before .before .before .before .before .before .make .kept .1 .1 .0 ∙ c .before .before .before .before .before .before .before .before .before .before .before .before .before .before .before .before .before .before .before .two .kept .1 .1 .0
+same-length-6 c = search needs
+
+same-length-7 : tie.Need-same-length-7
+same-length-7 c = search needs
+
+same-length-8 : tie.Need-same-length-8
+same-length-8 c = search needs
 
 returns-2 : tie.Need-returns-2
 unfolding TwoPromise
-returns-2 c = join-done _ _ _ _ _ _ _ _ _ (c .before .before .before .before .before .before .before .before .before .before .before .before .before .before .before .before .before .before .before .before .before .before .before .before .before .before .pre) _ _ _ (c .before .before .before .before .before .before .before .before .before .before .before .before .before .before .before .before .before .before .before .two .result) (c .before .before .before .before .before .before .before .before .before .before .before .before .before .before .before .before .before .before .before .two .ensures) _ _ _ (c .before .before .before .before .before .before .before .before .before .before .before .x .given .1) _ _ _ (c .before .before .before .before .before .before .make .result) (c .before .before .before .before .before .before .make .ensures)
+returns-2 c = (join-done _ _ _ _ _ _ _ _ _ (c .before .before .before .before .before .before .before .before .before .before .before .before .before .before .before .before .before .before .before .before .before .before .before .before .before .before .before .before .before .before .pre .0) _ _ _ (c .before .before .before .before .before .before .before .before .before .before .before .before .before .before .before .before .before .before .before .before .before .two .result) (c .before .before .before .before .before .before .before .before .before .before .before .before .before .before .before .before .before .before .before .before .before .two .ensures .0) _ _ _ (c .before .before .before .before .before .before .before .before .before .before .before .x .given .1) _ _ _ (c .before .before .before .before .before .before .make .result) (c .before .before .before .before .before .before .make .ensures), node-holds _ _ _ _ _ _ _ _ _ _ _ _ (c .before .before .before .before .before .before .make .result) (join-halves _ _ _ _ _ _ _ _ _ (c .before .before .before .before .before .before .before .before .before .before .before .before .before .before .before .before .before .before .before .before .before .before .before .before .before .before .before .before .before .before .pre .0) _ _ _ (c .before .before .before .before .before .before .before .before .before .before .before .before .before .before .before .before .before .before .before .before .before .two .result) (c .before .before .before .before .before .before .before .before .before .before .before .before .before .before .before .before .before .before .before .before .before .two .ensures .0) _ _ _ (c .before .before .before .before .before .before .before .before .before .before .before .x .given .1)) (c .before .before .before .before .before .before .make .ensures) (holds-both _ _ _ _ _ (c .before .before .before .before .before .before .before .before .before .before .before .x .given .1) (c .before .before .before .before .before .before .before .before .before .before .before .before .before .before .before .before .before .before .before .before .before .two .ensures .1)))
 
 pub join-spec : {M : Type 1} → statement M
 join-spec =
@@ -58,9 +65,11 @@ join-spec =
     same-length
     same-length-2
     same-length-3
+    same-length-4
     returns
     make-requires
-    same-length-4
     same-length-5
     same-length-6
+    same-length-7
+    same-length-8
     returns-2)
