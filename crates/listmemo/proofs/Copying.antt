@@ -46,7 +46,7 @@ sized-at m [] i h s = let z : ⊥ = omega arith in absurd z
 sized-at m (c ∷ cs) zero h s = s .0
 sized-at m (c ∷ cs) (suc i) h s = sized-at m cs i (omega arith) (s .1)
 
-under-at : (chosen : ℕ) (w : ℕ) (cs : List Cube) (i : ℕ) → i < length cs → getD (numbersUnder chosen w cs) i 0 ≡ chosen + w * cubeNumber (cubeAt cs i)
+pub under-at : (chosen : ℕ) (w : ℕ) (cs : List Cube) (i : ℕ) → i < length cs → getD (numbersUnder chosen w cs) i 0 ≡ chosen + w * cubeNumber (cubeAt cs i)
 unfolding numbersUnder cubeAt
 under-at chosen w [] i h = let z : ⊥ = omega arith in absurd z
 under-at chosen w (c ∷ cs) zero h = refl

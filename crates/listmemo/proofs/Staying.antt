@@ -1,11 +1,10 @@
 -- The memo of lists stays right: records are only added, and cubes are only put down from the place on, which is past every
 -- copy. A memo of zeros is right, since no first word is 0.
-use mathlib.Core.Path.{_≡_, refl, sym, ap, _∙_, subst, subst⁻¹}
-use mathlib.Core.Bool.{true}
+use mathlib.Core.Path.{_≡_, sym, ap, _∙_, subst, subst⁻¹}
 use mathlib.Core.List.{List}
 use Prim.Native.Nat.{ℕ, _+_, _^_, _≤_}
 use native.Mathlib.Omega.{arith}
-use lib.ListN.{length, getD, replicate, length-replicate, getD-replicate}
+use lib.ListN.{length, replicate, length-replicate, getD-replicate}
 use lib.Seq.{sets}
 use Rattle.rule.specs.Func.{Fn}
 use Rattle.rule.specs.Nodes.{Tree, named, addAll}
@@ -16,7 +15,7 @@ use Rattle.graph.specs.Sound.{Sound}
 use Rattle.graph.specs.Run.{Run}
 use Rattle.graph.proofs.Runs.{stays, stays-fn, names-stay}
 use Rattle.listmemo.specs.Copy.{numbersUnder}
-use Rattle.listmemo.specs.Past.{keyOf, firstWord, Written, Stands, Entry, Keeps}
+use Rattle.listmemo.specs.Past.{keyOf, firstWord, Written, Stands, Keeps}
 use Rattle.listmemo.proofs.Writing.{under-length}
 use Rattle.listmemo.proofs.Stores.{sets-apart}
 
