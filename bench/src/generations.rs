@@ -1,6 +1,8 @@
 //! The generator on functions whose lists are too long for a program.
 
 use crate::measure::counted;
+use crate::plain;
+use crate::Who;
 use compare::functions::{by_signs, Laid};
 use compare::generation::{Generation, Listed};
 use compare::random::Random;
@@ -13,7 +15,13 @@ pub struct Case {
     numbers: (u32, u64, u64),
 }
 
-pub const GENERATIONS: [Case; 3] = [
+pub const GENERATIONS: [Case; 4] = [
+    Case {
+        name: "9sym",
+        columns: 9,
+        sign: |point| b"01"[usize::from((3..=6).contains(&point.count_ones()))],
+        numbers: (0, 0, 148),
+    },
     Case {
         name: "threshold_8_of_16",
         columns: 16,
@@ -46,13 +54,21 @@ impl Case {
     }
 
     /// Generates the list once.
-    pub fn generate(&self, library: bool) {
+    pub fn generate(&self, who: Who) {
         let asked = self.asked();
-        let listed = match library {
-            true => counted(|| asked.by_library()),
-            false => counted(|| asked.by_second()),
-        };
-        self.right(&listed);
+        match who {
+            Who::Library => self.right(&counted(|| asked.by_library())),
+            Who::Second => self.right(&counted(|| asked.by_second())),
+            Who::Plain => drop(counted(|| self.plainly(&asked))),
+        }
+    }
+
+    /// The list by the plain version, as long as the case says.
+    pub fn plainly(&self, asked: &Generation) -> Vec<u32> {
+        let mut room = vec![0; asked.room.len()];
+        let length = plain::length(asked, &mut room).unwrap() as u64;
+        assert_eq!(length, self.numbers.1 + self.numbers.2, "{}", self.name);
+        room
     }
 
     /// The answer in a word.

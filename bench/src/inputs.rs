@@ -80,7 +80,7 @@ fn spread_points(columns: usize, rows: usize) -> Vec<u8> {
 
 /// Where four columns in a run are 1; then a don't care everywhere, more don't cares, and one row again
 /// and again.
-fn runs_of_four() -> Vec<u8> {
+pub fn runs_of_four() -> Vec<u8> {
     let mut random = Random::new(9);
     let run = |from: usize| row(16, &[0, 1, 2, 3].map(|k| (from + k, sign(true))));
     let mut rows: Vec<String> = (0..13).map(run).collect();

@@ -93,6 +93,12 @@ impl Case {
         best(|| self.right(judge()))
     }
 
+    /// The time of the library.
+    pub fn by_library(&self) -> Duration {
+        let check = self.check();
+        self.time(|| check.by_library())
+    }
+
     /// Judges the list once.
     pub fn judge(&self, library: bool) {
         let check = self.check();

@@ -1,13 +1,18 @@
 //! Measures the proved code. Without a word it times the checker on the greatest lists, by the library
 //! and by the second program. `bench speed` writes the table of the two programs and the generator, on
-//! the corpus and on hard inputs. Other words make one call, for counting instructions.
+//! the corpus and on hard inputs, `bench targets` what was asked of the speed, and `bench corpus FOLDER`
+//! the programs on every text of the corpus beside those of another build, which stand in a folder.
+//! Other words make one call, for counting instructions.
 
 mod generations;
 mod inputs;
 mod lists;
 mod measure;
+mod others;
+mod plain;
 mod rivals;
 mod speed;
+mod targets;
 
 use crate::generations::GENERATIONS;
 use crate::lists::CASES;
@@ -17,8 +22,29 @@ use std::env;
 use std::io::Read;
 use std::process::ExitCode;
 
-const USE: &str = "bench [speed | LIST library|second | GENERATION library|second | \
-    pla_list|pla_check library|second < INPUT]";
+const USE: &str = "bench [speed | targets | corpus FOLDER | LIST library|second | \
+    GENERATION library|second|plain | pla_list|pla_check library|second < INPUT]";
+
+/// Who makes a call: the proved library, the second program, or the plain version of the generator.
+#[derive(Clone, Copy, PartialEq, Eq)]
+pub enum Who {
+    Library,
+    Second,
+    Plain,
+}
+
+impl Who {
+    const ALL: [(&str, Who); 3] = [
+        ("library", Who::Library),
+        ("second", Who::Second),
+        ("plain", Who::Plain),
+    ];
+
+    fn named(word: &str) -> Option<Who> {
+        let found = Who::ALL.into_iter().find(|&(name, _)| name == word);
+        found.map(|(_, who)| who)
+    }
+}
 
 fn main() -> ExitCode {
     let words: Vec<String> = env::args().skip(1).collect();
@@ -32,7 +58,15 @@ fn main() -> ExitCode {
             speed::write();
             true
         }
-        [name, who @ ("library" | "second")] => one_call(name, who == "library"),
+        ["targets"] => {
+            targets::write();
+            true
+        }
+        ["corpus", folder] => {
+            others::write(folder.as_ref());
+            true
+        }
+        [name, who] => Who::named(who).is_some_and(|who| one_call(name, who)),
         _ => false,
     };
     if done {
@@ -43,22 +77,22 @@ fn main() -> ExitCode {
 }
 
 /// Makes the call of this name once, and tells whether there is one.
-fn one_call(name: &str, library: bool) -> bool {
-    let list = CASES.iter().find(|case| case.name == name);
-    let generation = GENERATIONS.iter().find(|case| case.name == name);
-    let program = Program::BOTH
-        .into_iter()
-        .find(|program| program.name() == name);
-    if let Some(case) = list {
+fn one_call(name: &str, who: Who) -> bool {
+    if let Some(case) = GENERATIONS.iter().find(|case| case.name == name) {
+        case.generate(who);
+        return true;
+    }
+    if who == Who::Plain {
+        return false;
+    }
+    let library = who == Who::Library;
+    if let Some(case) = CASES.iter().find(|case| case.name == name) {
         case.judge(library);
+        return true;
     }
-    if let Some(case) = generation {
-        case.generate(library);
-    }
-    if let Some(program) = program {
-        answer(program, library);
-    }
-    list.is_some() || generation.is_some() || program.is_some()
+    let named = |program: &Program| program.name() == name;
+    let program = Program::BOTH.into_iter().find(named);
+    program.inspect(|&program| answer(program, library)).is_some()
 }
 
 /// Answers standard input.

@@ -120,18 +120,18 @@ fn short(answer: &[u8]) -> String {
     rows.map_or(text.trim().to_string(), |rows| format!("{rows} rows"))
 }
 
-fn millions(count: Option<u64>) -> String {
+pub fn millions(count: Option<u64>) -> String {
     count.map_or("-".into(), |count| format!("{:.2} M", count as f64 / 1e6))
 }
 
-fn ratio(proved: Option<u64>, second: Option<u64>) -> String {
+pub fn ratio(proved: Option<u64>, second: Option<u64>) -> String {
     let (Some(proved), Some(second)) = (proved, second) else {
         return "-".into();
     };
     format!("{:.2}", second as f64 / proved as f64)
 }
 
-fn time(time: Duration) -> String {
+pub fn time(time: Duration) -> String {
     format!("{:.2} ms", time.as_secs_f64() * 1e3)
 }
 

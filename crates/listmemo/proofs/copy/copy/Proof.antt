@@ -34,7 +34,7 @@ slice-read-room : tie.Need-slice-read-room Inv-loop μ-loop
 slice-read-room c = omega arith
 
 sub-room : tie.Need-sub-room Inv-loop μ-loop
-sub-room c = next-more (c .before .before .before .loop .inv) (c .before .before .before .before .pre) (c .before .before .loop-test .taken) (omega arith)
+sub-room c = omega (arith, next-more (c .before .before .before .loop .inv) (c .before .before .before .before .pre) (c .before .before .loop-test .taken) (omega arith))
 
 add-room-2 : tie.Need-add-room-2 Inv-loop μ-loop
 add-room-2 c = omega (arith, next-fits (c .before .before .before .loop .inv) (c .before .before .before .before .pre) (c .before .before .loop-test .taken) (omega arith))

@@ -58,7 +58,7 @@ returns : tie.Need-returns
 unfolding firstWord stored
 returns c =
     λ n u v l h room at w t.
-    rw (c .key-of .ensures) (keeps-more _ (c .before .place-of .ensures) (omega arith) (omega arith) (c .before .before .before .pre .column) (omega arith) (c .before .before .before .pre .length) (omega arith) w t)
+    rw (c .key-of .ensures) (keeps-more _ (c .before .place-of .ensures) (omega arith) (omega arith) (c .before .before .before .pre .column) (omega arith) (omega arith) (omega arith) w t)
 
 pub keep-spec : {M : Type 1} → statement M
 keep-spec =
