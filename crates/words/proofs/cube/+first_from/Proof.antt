@@ -99,7 +99,9 @@ sub-first-from-2 t c = omega arith
 first-from-requires-2 : (t : ℕ) → lts.Need-first-from-requires-2 (claims t) (given t) first-from.Post
 first-from-requires-2 t c κs =
     let s = c .before .before .before .before .before .before .before in
-    (omega arith, search-low (s .args .columns) (s .args .ones) (s .args .zeros) (s .args .w) (s .args .s .now) (c .before .before .before .before .before .if1 .left) (s .pre .1))
+    let l = search-low (s .args .columns) (s .args .ones) (s .args .zeros) (s .args .w) (s .args .s .now) (c .before .before .before .before .before .if1 .left) (s .pre .1) in
+    let h = search-high (s .args .columns) (s .args .ones) (s .args .zeros) (s .args .w) (s .args .s .now) (c .before .before .before .before .before .if1 .left) (s .pre .1) in
+    (omega arith, search (l, h))
 
 mul-result-2 : (t : ℕ) → lts.Need-mul-result-2 (claims t) (given t) first-from.Post
 mul-result-2 t c =
@@ -128,7 +130,9 @@ sub-first-from-3 t c = omega arith
 first-from-requires-3 : (t : ℕ) → lts.Need-first-from-requires-3 (claims t) (given t) first-from.Post
 first-from-requires-3 t c κs =
     let s = c .before .before .before .before .before .before .before .before .before .before in
-    (omega arith, search-high (s .args .columns) (s .args .ones) (s .args .zeros) (s .args .w) (s .args .s .now) (c .before .before .before .before .before .before .before .before .if1 .left) (s .pre .1))
+    let l = search-low (s .args .columns) (s .args .ones) (s .args .zeros) (s .args .w) (s .args .s .now) (c .before .before .before .before .before .before .before .before .if1 .left) (s .pre .1) in
+    let h = search-high (s .args .columns) (s .args .ones) (s .args .zeros) (s .args .w) (s .args .s .now) (c .before .before .before .before .before .before .before .before .if1 .left) (s .pre .1) in
+    (omega arith, search (l, h))
 
 mul-result-3 : (t : ℕ) → lts.Need-mul-result-3 (claims t) (given t) first-from.Post
 mul-result-3 t c =
