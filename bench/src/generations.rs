@@ -11,6 +11,8 @@ pub struct Case {
     pub name: &'static str,
     columns: usize,
     sign: fn(u32) -> u8,
+    /// The cubes that the list room has.
+    room: usize,
     /// The number returned, what it returns, and the length of the list.
     numbers: (u32, u64, u64),
 }
@@ -20,24 +22,28 @@ pub const GENERATIONS: [Case; 4] = [
         name: "9sym",
         columns: 9,
         sign: |point| b"01"[usize::from((3..=6).contains(&point.count_ones()))],
+        room: 1_536,
         numbers: (0, 0, 148),
     },
     Case {
         name: "threshold_8_of_16",
         columns: 16,
         sign: |point| b"01"[usize::from(point.count_ones() >= 8)],
+        room: 16_384,
         numbers: (0, 0, 12_870),
     },
     Case {
         name: "parity_15",
         columns: 15,
         sign: |point| b"01"[point.count_ones() as usize % 2],
+        room: 16_384,
         numbers: (0, 0, 16_384),
     },
     Case {
         name: "parity_16",
         columns: 16,
         sign: |point| b"01"[point.count_ones() as usize % 2],
+        room: 16_384,
         numbers: (8, 32_768, 0),
     },
 ];
@@ -46,7 +52,7 @@ impl Case {
     pub fn asked(&self) -> Generation {
         let roots = by_signs(self.columns, self.sign);
         let laid = Laid::over(&mut Random::new(1), self.columns, &[], roots);
-        laid.asked(&mut Random::new(2), 4_096, 16_384)
+        laid.asked(&mut Random::new(2), 4_096, self.room)
     }
 
     pub fn right(&self, listed: &Listed) {
