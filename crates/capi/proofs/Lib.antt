@@ -1,3 +1,2 @@
--- The laws of the exports: how an answer is told, and that only one is allowed.
-mod Telling
+-- The laws of the exports: that only one answer is allowed.
 pub mod Unique

@@ -14,8 +14,8 @@ use Rattle.text.specs.Writing as writing
 use Rattle.text.specs.Candidate.{readNumbers}
 use Rattle.text.specs.Function.{functionNumbers}
 use Rattle.text.proofs.FunctionUnique.{reads-function-unique}
-use Rattle.capi.specs.Told.{rootAndCount, returnedAndLength, returnedAndWritten, returnedAndRows, returnedAndFunction}
-use Rattle.capi.specs.Told.{Operating, ToldValue, ToldVerdict, Generating, WritingList, ReadingCandidate, ReadingFunction}
+use Rattle.telling.specs.Told.{rootAndCount, returnedAndLength, returnedAndWritten, returnedAndRows, returnedAndFunction, ToldValue, ToldVerdict}
+use Rattle.capi.specs.Exports.{Operating, Generating, WritingList, ReadingCandidate, ReadingFunction}
 
 module _ {n : ℕ} {c : ℕ} {v : List ℕ} {l : List ℕ} {h : List ℕ} {ranged : Bool} {f : Fn n} {v₁ : List ℕ} {l₁ : List ℕ} {h₁ : List ℕ} {s₁ : ℕ} {o₁ : List ℕ} {v₂ : List ℕ} {l₂ : List ℕ} {h₂ : List ℕ} {s₂ : ℕ} {o₂ : List ℕ} where
   pub operating-unique : Operating n c v l h ranged f v₁ l₁ h₁ s₁ o₁ → Operating n c v l h ranged f v₂ l₂ h₂ s₂ o₂ →

@@ -5,7 +5,6 @@ pub mod candidate;
 pub mod function;
 pub mod generator;
 pub mod operation;
-mod told;
 pub mod value;
 pub mod verdict;
 pub mod writing;
