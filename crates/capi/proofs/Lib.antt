@@ -1,2 +1,3 @@
--- The laws of the exports: that only one answer is allowed.
+-- The laws of the exports: what the operations on a row call, and that only one answer is allowed.
+mod Operating
 pub mod Unique

@@ -1,4 +1,4 @@
--- What each export promises: an answer that its entry allows is told.
+-- What each export promises: an answer that its entry allows is told, on three slices or on a row of records.
 use mathlib.Core.Bool.{Bool}
 use mathlib.Core.List.{List}
 use Prim.Native.Nat.{ℕ}
@@ -13,6 +13,11 @@ use Rattle.text.specs.Candidate.{Read}
 use Rattle.text.specs.declared.candidate.Candidate.{Candidate}
 use Rattle.text.specs.Function.{ReadsFunction}
 use Rattle.text.specs.declared.function.Function.{Function}
+use Rattle.nodes.specs.Operation.{Operates}
+use Rattle.nodes.specs.Generator.{RowGenerates}
+use Rattle.nodes.specs.Reading.{RowReads}
+use Rattle.nodes.specs.declared.row.Node.{Node}
+use Rattle.nodes.specs.declared.operation.Operation.{Operation}
 use Rattle.telling.specs.Told.{Told, ToldList, ToldWritten, ToldCandidate, ToldFunction}
 
 -- An operation that builds, with the result f: an answer that it allows is told.
@@ -43,4 +48,22 @@ pub record ReadingCandidate (n : ℕ) (text : List ℕ) (room : List ℕ) (room�
 pub record ReadingFunction (text : List ℕ) (v : List ℕ) (l : List ℕ) (h : List ℕ) (v′ : List ℕ) (l′ : List ℕ) (h′ : List ℕ) (status : ℕ) (out : List ℕ) : Type 0 where
   pub answer : Function
   pub reads : ReadsFunction text v l h v′ l′ h′ answer
+  pub told : ToldFunction answer status out
+
+-- An operation that builds, on a row of records.
+pub record RowOperating (op : Operation) (n : ℕ) (c : ℕ) (xs : List Node) (ys : List Node) (status : ℕ) (out : List ℕ) : Type 0 where
+  pub answer : Answer
+  pub operates : Operates op n c xs ys answer
+  pub told : Told answer status out
+
+-- The generator, on a row of records.
+pub record RowGenerating (n : ℕ) (c : ℕ) (xs : List Node) (a : ℕ) (b : ℕ) (room : List ℕ) (ys : List Node) (room′ : List ℕ) (status : ℕ) (out : List ℕ) : Type 0 where
+  pub answer : Generated
+  pub generates : RowGenerates n c xs a b room ys room′ answer
+  pub told : ToldList answer status out
+
+-- The reading of a function text into a row of records.
+pub record RowReading (text : List ℕ) (xs : List Node) (ys : List Node) (status : ℕ) (out : List ℕ) : Type 0 where
+  pub answer : Function
+  pub reads : RowReads text xs ys answer
   pub told : ToldFunction answer status out
