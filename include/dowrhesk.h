@@ -22,7 +22,11 @@
  * first malformed cube from 1, at 11 the line of the first fault from 1, at 13 the bytes needed, else 0.
  * Refusals 1 to 6, 9, 10 and 13 change nothing that is lent besides out.
  *
- * A node table is three slices of one length, level, low and high, and a count of records in use.
+ * A node table has two faces, and a count of records in use. The functions below lend it as three slices
+ * of one length, level, low and high: the plain face, which copies nothing. Those named dowrhesk_row_..
+ * lend it as one row of records, each a struct dowrhesk_node: for a caller whose table is such a row, at
+ * the price of copying 4,096 records in and out at each call, on some 160 KB of stack. Both give the same
+ * numbers and leave the same records, and a table may go from one face to the other between two calls.
  * Numbers 0 and 1 are the constants, record i (from 0) has number i + 2. A point has bit k for column k.
  * A cube has bit k if column k must be 1, and bit 16 + k if it must be 0.
  */
@@ -62,6 +66,13 @@ extern "C" {
 #define DOWRHESK_MISSING 2 /* the smallest on point not covered, 0 */
 #define DOWRHESK_LITERAL 3 /* the first cube, and its leftmost column, whose literal can go */
 #define DOWRHESK_CUBE 4    /* the first cube that can go, 0 */
+
+/* A record of a node table that is lent as a row. */
+typedef struct dowrhesk_node {
+    uint16_t level;
+    uint16_t low;
+    uint16_t high;
+} dowrhesk_node;
 
 /* The operations that build. out: the root, the count of records in use. Refusals 1, 2, 3, 4, 7.
  * At a refusal the root is 0 and the count the one given. At done and at 7 the records past the count are
@@ -111,6 +122,35 @@ uint16_t dowrhesk_check(uint16_t columns, const uint16_t *level, size_t levels, 
 uint16_t dowrhesk_read_function(const uint8_t *text, size_t bytes, uint16_t *level, size_t levels,
                                 uint16_t *low, size_t lows, uint16_t *high, size_t highs,
                                 uint64_t out[5]);
+
+/* The same functions on a row of records: each is given what its namesake is given, and tells and leaves
+ * what its namesake does. */
+
+uint16_t dowrhesk_row_and(uint16_t columns, dowrhesk_node *nodes, size_t records, size_t count,
+                          uint16_t a, uint16_t b, uint64_t out[2]);
+
+uint16_t dowrhesk_row_or(uint16_t columns, dowrhesk_node *nodes, size_t records, size_t count,
+                         uint16_t a, uint16_t b, uint64_t out[2]);
+
+uint16_t dowrhesk_row_difference(uint16_t columns, dowrhesk_node *nodes, size_t records,
+                                 size_t count, uint16_t a, uint16_t b, uint64_t out[2]);
+
+uint16_t dowrhesk_row_variable(uint16_t columns, dowrhesk_node *nodes, size_t records, size_t count,
+                               uint16_t column, uint64_t out[2]);
+
+uint16_t dowrhesk_row_value(uint16_t columns, const dowrhesk_node *nodes, size_t records,
+                            size_t count, uint16_t root, uint32_t point, uint64_t out[1]);
+
+uint16_t dowrhesk_row_generate(uint16_t columns, dowrhesk_node *nodes, size_t records, size_t count,
+                               uint16_t lower, uint16_t upper, uint32_t *room, size_t cubes,
+                               uint64_t out[2]);
+
+uint16_t dowrhesk_row_check(uint16_t columns, const dowrhesk_node *nodes, size_t records,
+                            size_t count, uint16_t lower, uint16_t upper, const uint32_t *list,
+                            size_t cubes, uint64_t out[3]);
+
+uint16_t dowrhesk_row_read_function(const uint8_t *text, size_t bytes, dowrhesk_node *nodes,
+                                    size_t records, uint64_t out[5]);
 
 /* Reads the list of a candidate text for a function of so many columns. out: returned, the number of
  * rows. Refusals 1, 10, 6, 11, 8. At 11 and 8 the room is zero; at done it has the cubes, then zeros. */

@@ -1,6 +1,8 @@
 //! The functions of the static library, as they are exported. A slice is a pointer and a length; what
 //! a function answers besides its status, it writes into an array.
 
+use crate::rows::Node;
+
 /// A function that builds from two roots.
 pub type OfTwoRoots = unsafe extern "C" fn(
     columns: u16,
@@ -10,6 +12,17 @@ pub type OfTwoRoots = unsafe extern "C" fn(
     lows: usize,
     high: *mut u16,
     highs: usize,
+    count: usize,
+    a: u16,
+    b: u16,
+    out: *mut [u64; 2],
+) -> u16;
+
+/// The same on a row of records.
+pub type OfTwoRootsOnRow = unsafe extern "C" fn(
+    columns: u16,
+    nodes: *mut Node,
+    records: usize,
     count: usize,
     a: u16,
     b: u16,
@@ -136,6 +149,79 @@ extern "C" {
         lows: usize,
         high: *mut u16,
         highs: usize,
+        out: *mut [u64; 5],
+    ) -> u16;
+    pub fn dowrhesk_row_and(
+        columns: u16,
+        nodes: *mut Node,
+        records: usize,
+        count: usize,
+        a: u16,
+        b: u16,
+        out: *mut [u64; 2],
+    ) -> u16;
+    pub fn dowrhesk_row_or(
+        columns: u16,
+        nodes: *mut Node,
+        records: usize,
+        count: usize,
+        a: u16,
+        b: u16,
+        out: *mut [u64; 2],
+    ) -> u16;
+    pub fn dowrhesk_row_difference(
+        columns: u16,
+        nodes: *mut Node,
+        records: usize,
+        count: usize,
+        a: u16,
+        b: u16,
+        out: *mut [u64; 2],
+    ) -> u16;
+    pub fn dowrhesk_row_variable(
+        columns: u16,
+        nodes: *mut Node,
+        records: usize,
+        count: usize,
+        column: u16,
+        out: *mut [u64; 2],
+    ) -> u16;
+    pub fn dowrhesk_row_value(
+        columns: u16,
+        nodes: *const Node,
+        records: usize,
+        count: usize,
+        root: u16,
+        point: u32,
+        out: *mut [u64; 1],
+    ) -> u16;
+    pub fn dowrhesk_row_generate(
+        columns: u16,
+        nodes: *mut Node,
+        records: usize,
+        count: usize,
+        lower: u16,
+        upper: u16,
+        room: *mut u32,
+        cubes: usize,
+        out: *mut [u64; 2],
+    ) -> u16;
+    pub fn dowrhesk_row_check(
+        columns: u16,
+        nodes: *const Node,
+        records: usize,
+        count: usize,
+        lower: u16,
+        upper: u16,
+        list: *const u32,
+        cubes: usize,
+        out: *mut [u64; 3],
+    ) -> u16;
+    pub fn dowrhesk_row_read_function(
+        text: *const u8,
+        bytes: usize,
+        nodes: *mut Node,
+        records: usize,
         out: *mut [u64; 5],
     ) -> u16;
     pub fn dowrhesk_list_answer(

@@ -4,7 +4,7 @@
 //! node table with its operations; `read_candidate` and `write_list` are the texts of lists; and
 //! `list_answer` and `check_answer` are the two programs. Answers are values or a `Refused`, which
 //! carries document 01's number. Whoever lends the memory calls `numbers`, where every exported
-//! function stands on slices and numbers.
+//! function stands on slices and numbers, or `rows`, where a node table is a row of records.
 //!
 //! Nothing is decided here: every function calls the library and tells what it said.
 //!
@@ -25,6 +25,7 @@ mod function;
 mod list;
 pub mod numbers;
 mod program;
+pub mod rows;
 mod table;
 
 pub use answer::{Refusal, Refused, Verdict};

@@ -9,7 +9,7 @@ use crate::exports::{
 };
 
 /// What the arrays hold before a call, so that an answer that was not written is noticed.
-const UNWRITTEN: u64 = u64::MAX;
+pub(crate) const UNWRITTEN: u64 = u64::MAX;
 
 /// The answer of a function that builds.
 #[derive(Clone, Copy, PartialEq, Eq, Debug)]
@@ -155,7 +155,7 @@ pub fn variable(
     built(status, out)
 }
 
-fn built(status: u16, [root, count]: [u64; 2]) -> Built {
+pub(crate) fn built(status: u16, [root, count]: [u64; 2]) -> Built {
     Built {
         status,
         root,
@@ -190,7 +190,10 @@ pub fn value(
             &mut out,
         )
     };
-    let [value] = out;
+    valued(status, out)
+}
+
+pub(crate) fn valued(status: u16, [value]: [u64; 1]) -> Valued {
     Valued { status, value }
 }
 
@@ -228,7 +231,7 @@ pub fn generate(
     delivered(status, out)
 }
 
-fn delivered(status: u16, [returned, length]: [u64; 2]) -> Delivered {
+pub(crate) fn delivered(status: u16, [returned, length]: [u64; 2]) -> Delivered {
     Delivered {
         status,
         returned,
@@ -267,7 +270,10 @@ pub fn check(
             &mut out,
         )
     };
-    let [kind, values @ ..] = out;
+    checked(status, out)
+}
+
+pub(crate) fn checked(status: u16, [kind, values @ ..]: [u64; 3]) -> Checked {
     Checked {
         status,
         kind,
@@ -321,6 +327,10 @@ pub fn read_function(
             &mut out,
         )
     };
+    function_read(status, out)
+}
+
+pub(crate) fn function_read(status: u16, out: [u64; 5]) -> FunctionRead {
     let [returned, columns, count, lower, upper] = out;
     FunctionRead {
         status,

@@ -1,6 +1,7 @@
 //! The safe functions, each called as its caller would, at done and at refusals.
 
 use dowrhesk::numbers;
+use dowrhesk::rows::{self, Node};
 use dowrhesk::{check_answer, list_answer, literals, read_candidate, write_list};
 use dowrhesk::{
     Function, Refusal, Refused, Sign, Table, Verdict, ANSWER_ROOM, MOST_BYTES, MOST_RECORDS,
@@ -98,6 +99,44 @@ fn a_table_and_its_operations() {
         refused(Refusal::NodesLack, 0)
     );
     assert_eq!(table.count(), 4);
+}
+
+#[test]
+fn the_whole_example_on_a_row() {
+    let mut row = [Node::default(); 16];
+    let read = rows::read_function(TEXT, &mut row);
+    let (count, lower, upper) = (read.count as usize, read.lower as u16, read.upper as u16);
+    assert_eq!((read.status, read.returned, read.columns), (0, 0, 2));
+    assert!(row[count..].iter().all(|&node| node == Node::default()));
+    let before = row;
+    let mut room = [7; 3];
+    let told = rows::generate(2, &mut row, count, lower, upper, &mut room);
+    assert_eq!((told.length(), room), (Ok(2), [1, 2, 0]));
+    assert_eq!(row, before);
+    let verdict = rows::check(2, &row, count, lower, upper, &room[..2]).verdict();
+    assert_eq!(verdict, Ok(Verdict::Accept));
+    let told = rows::generate(2, &mut row, count, lower, upper, &mut room[..1]);
+    assert_eq!(told.length(), refused(Refusal::ListLacks, 2));
+}
+
+#[test]
+fn a_row_and_its_operations() {
+    let mut row = [Node::default(); 4];
+    let numbers = |built: numbers::Built| (built.status, built.root, built.count);
+    assert_eq!(numbers(rows::variable(2, &mut row, 0, 0)), (0, 2, 1));
+    assert_eq!(numbers(rows::variable(2, &mut row, 1, 1)), (0, 3, 2));
+    assert_eq!(numbers(rows::and(2, &mut row, 2, 2, 3)), (0, 4, 3));
+    assert_eq!(numbers(rows::or(2, &mut row, 3, 2, 4)), (0, 2, 3));
+    assert_eq!(numbers(rows::or(2, &mut row, 3, 2, 3)), (0, 5, 4));
+    let (level, low, high) = (0, 3, 1);
+    assert_eq!(row[3], Node { level, low, high });
+    assert_eq!(numbers(rows::difference(2, &mut row, 4, 5, 4)), (7, 0, 4));
+    let at = |point| rows::value(2, &row, 4, 4, point).value;
+    assert_eq!([at(0), at(1), at(2), at(3)], [0, 0, 0, 1]);
+    let mut long = vec![row[0]; MOST_RECORDS + 1];
+    assert_eq!(numbers(rows::and(2, &mut long, 1, 2, 2)), (2, 0, 1));
+    assert_eq!(numbers(rows::and(17, &mut long, 1, 2, 2)), (1, 0, 1));
+    assert!(long.iter().all(|&node| node == row[0]));
 }
 
 #[test]

@@ -1,3 +1,3 @@
--- The laws of the exports: how an answer is told, and that only one is allowed.
-mod Telling
+-- The laws of the exports: what the operations on a row call, and that only one answer is allowed.
+mod Operating
 pub mod Unique

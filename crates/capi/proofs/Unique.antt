@@ -1,4 +1,4 @@
--- What an export's contract allows is one status, one content of the array, and one of the slices lent.
+-- What an export's contract allows is one status, one content of the array, and one of the slices or the row lent.
 use mathlib.Core.Path.{_≡_, sym, ap, _∙_}
 use mathlib.Core.Bool.{Bool}
 use mathlib.Core.List.{List}
@@ -14,8 +14,11 @@ use Rattle.text.specs.Writing as writing
 use Rattle.text.specs.Candidate.{readNumbers}
 use Rattle.text.specs.Function.{functionNumbers}
 use Rattle.text.proofs.FunctionUnique.{reads-function-unique}
-use Rattle.capi.specs.Told.{rootAndCount, returnedAndLength, returnedAndWritten, returnedAndRows, returnedAndFunction}
-use Rattle.capi.specs.Told.{Operating, ToldValue, ToldVerdict, Generating, WritingList, ReadingCandidate, ReadingFunction}
+use Rattle.nodes.specs.declared.row.Node.{Node}
+use Rattle.nodes.specs.declared.operation.Operation.{Operation}
+use Rattle.nodes.proofs.Unique.{operates-unique, row-generates-unique, row-reads-unique}
+use Rattle.telling.specs.Told.{rootAndCount, returnedAndLength, returnedAndWritten, returnedAndRows, returnedAndFunction, ToldValue, ToldVerdict}
+use Rattle.capi.specs.Exports.{Operating, Generating, WritingList, ReadingCandidate, ReadingFunction, RowOperating, RowGenerating, RowReading}
 
 module _ {n : ℕ} {c : ℕ} {v : List ℕ} {l : List ℕ} {h : List ℕ} {ranged : Bool} {f : Fn n} {v₁ : List ℕ} {l₁ : List ℕ} {h₁ : List ℕ} {s₁ : ℕ} {o₁ : List ℕ} {v₂ : List ℕ} {l₂ : List ℕ} {h₂ : List ℕ} {s₂ : ℕ} {o₂ : List ℕ} where
   pub operating-unique : Operating n c v l h ranged f v₁ l₁ h₁ s₁ o₁ → Operating n c v l h ranged f v₂ l₂ h₂ s₂ o₂ →
@@ -79,3 +82,32 @@ module _ {text : List ℕ} {v : List ℕ} {l : List ℕ} {h : List ℕ} {v₁ : 
         same .2,
         same .3,
       )
+
+pub row-operating-unique : {op : Operation} {n c : ℕ} {xs ys₁ ys₂ : List Node} {s₁ s₂ : ℕ} {o₁ o₂ : List ℕ} → RowOperating op n c xs ys₁ s₁ o₁ → RowOperating op n c xs ys₂ s₂ o₂ →
+    (s₁ ≡ s₂) × (o₁ ≡ o₂) × (ys₁ ≡ ys₂)
+row-operating-unique p q =
+    let same = operates-unique (p .operates) (q .operates) in (
+      p .told .refusal ∙ ap (λ a. numbersOf a .refusal) (same .0) ∙ sym (q .told .refusal),
+      p .told .numbers ∙ ap rootAndCount (same .0) ∙ sym (q .told .numbers),
+      same .1,
+    )
+
+module _ {n c : ℕ} {xs ys₁ ys₂ : List Node} {a b : ℕ} {room room₁ room₂ : List ℕ} {s₁ s₂ : ℕ} {o₁ o₂ : List ℕ} where
+  pub row-generating-unique : RowGenerating n c xs a b room ys₁ room₁ s₁ o₁ → RowGenerating n c xs a b room ys₂ room₂ s₂ o₂ →
+      (s₁ ≡ s₂) × (o₁ ≡ o₂) × (ys₁ ≡ ys₂) × (room₁ ≡ room₂)
+  row-generating-unique p q =
+      let same = row-generates-unique (p .generates) (q .generates) in (
+        p .told .refusal ∙ ap (λ a. list.numbersOf a .refusal) (same .0) ∙ sym (q .told .refusal),
+        p .told .numbers ∙ ap returnedAndLength (same .0) ∙ sym (q .told .numbers),
+        same .1,
+        same .2,
+      )
+
+pub row-reading-unique : {text : List ℕ} {xs ys₁ ys₂ : List Node} {s₁ s₂ : ℕ} {o₁ o₂ : List ℕ} → RowReading text xs ys₁ s₁ o₁ → RowReading text xs ys₂ s₂ o₂ →
+    (s₁ ≡ s₂) × (o₁ ≡ o₂) × (ys₁ ≡ ys₂)
+row-reading-unique p q =
+    let same = row-reads-unique (p .reads) (q .reads) in (
+      p .told .refusal ∙ ap (λ a. functionNumbers a .refusal) (same .0) ∙ sym (q .told .refusal),
+      p .told .numbers ∙ ap returnedAndFunction (same .0) ∙ sym (q .told .numbers),
+      same .1,
+    )

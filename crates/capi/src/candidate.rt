@@ -1,7 +1,7 @@
 // Reading a candidate list. The array gets what a refusal returns and the length of the list that stands in the room; the
 // text is only read.
-ghost use Rattle.capi.specs.Told.{ReadingCandidate};
-use crate::told;
+ghost use Rattle.capi.specs.Exports.{ReadingCandidate};
+use telling::told;
 use text::candidate;
 
 // The list of a candidate text for a function of so many columns.

@@ -1,7 +1,7 @@
 // Reading a function text. The array gets what a refusal returns, the columns, the count of records in use and both roots;
 // the text is only read.
-ghost use Rattle.capi.specs.Told.{ReadingFunction};
-use crate::told;
+ghost use Rattle.capi.specs.Exports.{ReadingFunction};
+use telling::told;
 use text::function;
 
 // The function of a text, named in a table.

@@ -1,7 +1,7 @@
 // The list generator. The array gets what a refusal returns and the length of the list that stands in the room.
-ghost use Rattle.capi.specs.Told.{Generating};
-use crate::told;
+ghost use Rattle.capi.specs.Exports.{Generating};
 use list::entry;
+use telling::told;
 
 // The list of the rule for a lower and an upper root.
 #[no_mangle]

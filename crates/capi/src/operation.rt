@@ -2,10 +2,10 @@
 ghost use mathlib.Core.Bool.{_&&_};
 ghost use lib.Dec.{ltb};
 ghost use Rattle.graph.specs.Entry.{inRange, resultOf, variableFn};
-ghost use Rattle.capi.specs.Told.{Operating};
-use crate::told;
+ghost use Rattle.capi.specs.Exports.{Operating};
 use graph::entry;
 use graph::operation::Op;
+use telling::told;
 
 // The function that is 1 where both roots are.
 #[no_mangle]

@@ -1,9 +1,9 @@
 // The value at a point. The array gets it as 0 or 1; the table is only read.
 ghost use Rattle.rule.specs.Refusal.{firstBroken};
 ghost use Rattle.graph.specs.Entry.{valueConditions, valueAnswer};
-ghost use Rattle.capi.specs.Told.{ToldValue};
-use crate::told;
+ghost use Rattle.telling.specs.Told.{ToldValue};
 use graph::entry;
+use telling::told;
 
 #[no_mangle]
 pub extern "C" fn dowrhesk_value(

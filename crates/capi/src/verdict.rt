@@ -1,9 +1,9 @@
 // The list checker. The array gets the kind of the verdict, or what a refusal returns, and the verdict's values; the table
 // and the list are only read.
 ghost use Rattle.checker.specs.Entry.{answerFor, refusal};
-ghost use Rattle.capi.specs.Told.{ToldVerdict};
-use crate::told;
+ghost use Rattle.telling.specs.Told.{ToldVerdict};
 use list::check;
+use telling::told;
 
 // The verdict on any list for a lower and an upper root.
 #[no_mangle]

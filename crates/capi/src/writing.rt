@@ -1,6 +1,6 @@
 // Writing a list as text. The array gets what a refusal returns and the bytes written; the list is only read.
-ghost use Rattle.capi.specs.Told.{WritingList};
-use crate::told;
+ghost use Rattle.capi.specs.Exports.{WritingList};
+use telling::told;
 use text::writing;
 
 // The text of a list of cubes.

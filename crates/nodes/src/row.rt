@@ -6,6 +6,8 @@ ghost use lib.ListN.{replicate};
 ghost use Rattle.nodes.specs.Row.{zeroNode, over, overRefusal};
 use rule::refusal;
 
+// Laid out as C lays it out: three 16-bit numbers, one after the other.
+#[repr(C)]
 pub struct Node {
     pub level: u16,
     pub low: u16,

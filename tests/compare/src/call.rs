@@ -1,8 +1,9 @@
-//! One call of an operation on three slices, as the proved library and as the second program
-//! answer it.
+//! One call of an operation on three slices and on a row of records, as the proved library and as the
+//! second program answer it.
 
 use crate::library;
 use crate::random::Random;
+use crate::rows::{self, Node};
 use second::cube::with_literal;
 use second::function::Function;
 use second::operation;
@@ -33,6 +34,25 @@ impl Slices {
         let one_length = self.low.len() == length && self.high.len() == length;
         let record = |i: usize| Record::new(self.level[i], self.low[i], self.high[i]);
         one_length.then(|| (0..length).map(record).collect())
+    }
+
+    /// The row of the records, if the slices are of one length.
+    pub fn row(&self) -> Option<Vec<Node>> {
+        let node = |record: &Record| Node {
+            level: record.level,
+            low: record.low,
+            high: record.high,
+        };
+        Some(self.records()?.iter().map(node).collect())
+    }
+
+    /// The slices of a row.
+    pub fn of_row(row: &[Node]) -> Slices {
+        Slices {
+            level: row.iter().map(|node| node.level).collect(),
+            low: row.iter().map(|node| node.low).collect(),
+            high: row.iter().map(|node| node.high).collect(),
+        }
     }
 
     /// The lengths and the records in use, no more than forty of them.
@@ -161,17 +181,30 @@ impl fmt::Display for Call {
 impl Call {
     /// The outcome, which is one and the same for both.
     pub fn outcome(&self) -> Outcome {
-        let proved = self.by_library();
         let told = self.by_second();
+        self.assert_told("library", &self.by_library(), &told);
+        told
+    }
+
+    /// Holds the same call on a row of records against its outcome, if the slices are of one length;
+    /// tells whether they are.
+    pub fn holds_on_row(&self, told: &Outcome) -> bool {
+        let Some(row) = self.table.row() else {
+            return false;
+        };
+        self.assert_told("library, on a row", &self.by_row(row), told);
+        true
+    }
+
+    fn assert_told(&self, whose: &str, proved: &Outcome, told: &Outcome) {
         if proved != told {
             panic!(
-                "{self}\nlibrary: {}\nsecond program: {}\n{}",
+                "{self}\n{whose}: {}\nsecond program: {}\n{}",
                 proved.numbers(),
                 told.numbers(),
                 proved.table.first_difference(&told.table)
             );
         }
-        proved
     }
 
     fn by_library(&self) -> Outcome {
@@ -196,6 +229,29 @@ impl Call {
             number: u32::from(built.status),
             others: vec![built.root, built.count],
             table,
+        }
+    }
+
+    fn by_row(&self, mut row: Vec<Node>) -> Outcome {
+        let (columns, count) = (self.columns, self.count);
+        let built = match self.asked {
+            Asked::And(a, b) => rows::and(columns, &mut row, count, a, b),
+            Asked::Or(a, b) => rows::or(columns, &mut row, count, a, b),
+            Asked::Difference(a, b) => rows::difference(columns, &mut row, count, a, b),
+            Asked::Variable(column) => rows::variable(columns, &mut row, count, column),
+            Asked::Value(root, point) => {
+                let valued = rows::value(columns, &row, count, root, point);
+                return Outcome {
+                    number: u32::from(valued.status),
+                    others: vec![valued.value],
+                    table: Slices::of_row(&row),
+                };
+            }
+        };
+        Outcome {
+            number: u32::from(built.status),
+            others: vec![built.root, built.count],
+            table: Slices::of_row(&row),
         }
     }
 

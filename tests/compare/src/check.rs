@@ -1,8 +1,9 @@
-//! One call of the checker on three slices and a list, as the proved library and as the second
-//! program answer it.
+//! One call of the checker on three slices or a row of records, and a list, as the proved library and
+//! as the second program answer it.
 
 use crate::call::Slices;
-use crate::library;
+use crate::library::{self, Checked};
+use crate::rows;
 use second::checker;
 use second::refusal::{COLUMNS_OVER, DONE, MOST_COLUMNS, TABLE_OVER};
 use second::table::Record;
@@ -78,6 +79,16 @@ impl From<Verdict> for Judged {
     }
 }
 
+impl From<Checked> for Judged {
+    fn from(checked: Checked) -> Judged {
+        Judged {
+            number: u32::from(checked.status),
+            kind: checked.kind,
+            values: checked.values,
+        }
+    }
+}
+
 impl fmt::Display for Check {
     fn fmt(&self, f: &mut fmt::Formatter) -> fmt::Result {
         write!(f, "check, {} columns, ", self.columns)?;
@@ -99,6 +110,21 @@ impl Check {
         proved
     }
 
+    /// Holds the same call on a row of records against its answer, if the slices are of one length;
+    /// tells whether they are. Nothing that was lent has changed.
+    pub fn holds_on_row(&self, told: &Judged) -> bool {
+        let Some(row) = self.table.row() else {
+            return false;
+        };
+        let lent = self.list.clone();
+        let (count, lower, upper) = (self.count, self.lower, self.upper);
+        let on_row = Judged::from(rows::check(self.columns, &row, count, lower, upper, &lent));
+        let kept = lent == self.list && Slices::of_row(&row) == self.table;
+        assert!(kept, "{self}\non a row: something lent has changed");
+        assert_eq!(on_row, *told, "{self}\nleft: library, on a row");
+        true
+    }
+
     /// The answer of the proved library.
     pub fn by_library(&self) -> Judged {
         let checked = library::check(
@@ -111,11 +137,7 @@ impl Check {
             self.upper,
             &self.list,
         );
-        Judged {
-            number: u32::from(checked.status),
-            kind: checked.kind,
-            values: checked.values,
-        }
+        checked.into()
     }
 
     /// The answer of the second program.

@@ -1,8 +1,9 @@
-//! One call of the generator on three slices and a list room, as the proved library and as the
-//! second program answer it.
+//! One call of the generator on three slices or a row of records, and a list room, as the proved
+//! library and as the second program answer it.
 
 use crate::call::Slices;
-use crate::library;
+use crate::library::{self, Delivered};
+use crate::rows::{self, Node};
 use second::generator;
 use second::refusal::{COLUMNS_OVER, MOST_COLUMNS, TABLE_OVER};
 use second::table::Record;
@@ -45,22 +46,45 @@ impl fmt::Display for Generation {
     }
 }
 
+fn of_library(generated: Delivered, table: Slices, room: Vec<u32>) -> Listed {
+    Listed {
+        number: u32::from(generated.status),
+        returned: generated.returned,
+        length: generated.length,
+        table,
+        room,
+    }
+}
+
 impl Generation {
     /// The outcome, which is one and the same for both.
     pub fn listed(&self) -> Listed {
-        let proved = self.by_library();
         let told = self.by_second();
+        self.assert_told("library", &self.by_library(), &told);
+        told
+    }
+
+    /// Holds the same call on a row of records against its outcome, if the slices are of one length;
+    /// tells whether they are.
+    pub fn holds_on_row(&self, told: &Listed) -> bool {
+        let Some(row) = self.table.row() else {
+            return false;
+        };
+        self.assert_told("library, on a row", &self.by_row(row), told);
+        true
+    }
+
+    fn assert_told(&self, whose: &str, proved: &Listed, told: &Listed) {
         if proved != told {
             let pairs = proved.room.iter().zip(&told.room);
             panic!(
-                "{self}\nlibrary: {:?}\nsecond program: {:?}\n{}, room {:?}",
+                "{self}\n{whose}: {:?}\nsecond program: {:?}\n{}, room {:?}",
                 proved.numbers(),
                 told.numbers(),
                 proved.table.first_difference(&told.table),
                 pairs.clone().position(|(a, b)| a != b)
             );
         }
-        proved
     }
 
     pub fn by_library(&self) -> Listed {
@@ -76,13 +100,14 @@ impl Generation {
             self.upper,
             &mut room,
         );
-        Listed {
-            number: u32::from(generated.status),
-            returned: generated.returned,
-            length: generated.length,
-            table,
-            room,
-        }
+        of_library(generated, table, room)
+    }
+
+    fn by_row(&self, mut row: Vec<Node>) -> Listed {
+        let mut room = self.room.clone();
+        let (count, lower, upper) = (self.count, self.lower, self.upper);
+        let generated = rows::generate(self.columns, &mut row, count, lower, upper, &mut room);
+        of_library(generated, Slices::of_row(&row), room)
     }
 
     pub fn by_second(&self) -> Listed {

@@ -1,7 +1,8 @@
 //! The proved library held against the second program: the same call of both, and every number of
 //! the answer and of what was lent has to be the same.
 //!
-//! `library` calls the static library; `call` is one call of an operation as both answer it,
+//! `library` calls the static library on three slices, `rows` on a row of records, and what either
+//! gives has to be what the other gives; `call` is one call of an operation as both answer it,
 //! `generation` one of the generator, `check` one of the checker and `text_entry` one of an entry for
 //! texts; `tables` makes tables that keep their rule, and breaks them in one place; `functions` makes
 //! functions with don't cares, and lays them into tables; `lists` changes lists; `faults` puts
@@ -24,3 +25,4 @@ pub mod text_entry;
 pub mod texts;
 
 pub use dowrhesk::numbers as library;
+pub use dowrhesk::rows;

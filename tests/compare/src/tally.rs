@@ -13,6 +13,11 @@ const CHECK: &str = "check";
 /// And what a text is counted as, however often it is read.
 const TEXT: &str = "text";
 
+/// So many calls of a tally are all made on a row of records too, and of those after them one in so
+/// many, which shares no factor with the turns that a test takes: a row's call copies 4,096 records.
+const ALL_ON_ROWS: usize = 1_000;
+const ONE_ON_A_ROW_IN: usize = 11;
+
 /// A name for each number that is returned.
 pub const NUMBERS: [&str; 14] = [
     "done",
@@ -56,6 +61,7 @@ pub const COLUMNS: [&str; 17] = [
 pub struct Tally {
     counts: BTreeMap<(&'static str, &'static str), usize>,
     calls: usize,
+    on_rows: usize,
     texts: usize,
 }
 
@@ -68,7 +74,7 @@ impl Tally {
     pub fn call(&mut self, kind: &'static str, call: &Call) -> Outcome {
         let outcome = call.outcome();
         self.note(kind, call.asked);
-        self.calls += 1;
+        self.made(|| call.holds_on_row(&outcome));
         outcome
     }
 
@@ -81,7 +87,7 @@ impl Tally {
     pub fn generate(&mut self, kind: &'static str, generation: &Generation) -> Listed {
         let listed = generation.listed();
         self.note_generation(kind);
-        self.calls += 1;
+        self.made(|| generation.holds_on_row(&listed));
         listed
     }
 
@@ -95,7 +101,7 @@ impl Tally {
         let judged = check.judged();
         self.note_check(kind);
         self.note_check(judged.name());
-        self.calls += 1;
+        self.made(|| check.holds_on_row(&judged));
         judged
     }
 
@@ -109,7 +115,7 @@ impl Tally {
         let given = entry.given();
         self.count(kind, E::NAME);
         self.count(NUMBERS[given.number as usize], E::NAME);
-        self.calls += 1;
+        self.made(|| entry.holds_on_row(&given));
         given
     }
 
@@ -123,8 +129,20 @@ impl Tally {
         *self.counts.entry((kind, operation)).or_default() += 1;
     }
 
+    /// One more call was made; where it is a row's turn, it is made on a row too.
+    fn made(&mut self, holds_on_row: impl FnOnce() -> bool) {
+        let due = self.calls < ALL_ON_ROWS || self.calls % ONE_ON_A_ROW_IN == 0;
+        self.calls += 1;
+        self.on_rows += usize::from(due && holds_on_row());
+    }
+
     pub fn calls(&self) -> usize {
         self.calls
+    }
+
+    /// How many of the calls were made on a row of records too.
+    pub fn on_rows(&self) -> usize {
+        self.on_rows
     }
 
     pub fn texts(&self) -> usize {

@@ -2,7 +2,8 @@
 //! answer it.
 
 use crate::call::Slices;
-use crate::library::{self, Delivered};
+use crate::library::{self, Delivered, FunctionRead};
+use crate::rows;
 use second::candidate::read_candidate;
 use second::reading::read_function;
 use second::refusal::{MOST_BYTES, TABLE_OVER, TEXT_OVER};
@@ -19,15 +20,33 @@ pub trait Entry: fmt::Display {
     fn by_library(&self) -> Given<Self::Lent>;
     fn by_second(&self) -> Given<Self::Lent>;
 
+    /// What the proved library gives on a row of records, if the entry is lent one.
+    fn by_row(&self) -> Option<Given<Self::Lent>> {
+        None
+    }
+
     /// What is given, which is one and the same by both.
     fn given(&self) -> Given<Self::Lent> {
-        let proved = self.by_library();
         let told = self.by_second();
+        self.assert_told("library", &self.by_library(), &told);
+        told
+    }
+
+    /// Holds the same call on a row of records against what is given, if the entry is lent a table and
+    /// its slices are of one length; tells whether that is so.
+    fn holds_on_row(&self, told: &Given<Self::Lent>) -> bool {
+        let Some(on_row) = self.by_row() else {
+            return false;
+        };
+        self.assert_told("library, on a row", &on_row, told);
+        true
+    }
+
+    fn assert_told(&self, whose: &str, proved: &Given<Self::Lent>, told: &Given<Self::Lent>) {
         if proved != told {
             let (proved, told) = (proved.in_short(), told.in_short());
-            panic!("{self}\nlibrary: {proved}\nsecond program: {told}");
+            panic!("{self}\n{whose}: {proved}\nsecond program: {told}");
         }
-        proved
     }
 }
 
@@ -63,7 +82,17 @@ fn of_library<Lent>(told: Delivered, lent: Lent) -> Given<Lent> {
     }
 }
 
-/// And what the second program gives.
+/// What the library gives of a function text in a table.
+fn of_reading(told: FunctionRead, table: Slices) -> Given<Slices> {
+    Given {
+        number: u32::from(told.status),
+        returned: told.returned,
+        others: vec![told.columns, told.count, told.lower, told.upper],
+        lent: table,
+    }
+}
+
+/// And what the second program gives of a list or a text in a room.
 fn of_second<Lent>(number: u32, returned: usize, length: usize, lent: Lent) -> Given<Lent> {
     Given {
         number,
@@ -143,12 +172,18 @@ impl Entry for FunctionText<'_> {
         let (level, low, high) = (&mut table.level, &mut table.low, &mut table.high);
         let told = library::read_function(&text, level, low, high);
         assert!(text == self.text, "{self}\nlibrary: the text has changed");
-        Given {
-            number: u32::from(told.status),
-            returned: told.returned,
-            others: vec![told.columns, told.count, told.lower, told.upper],
-            lent: table,
-        }
+        of_reading(told, table)
+    }
+
+    fn by_row(&self) -> Option<Given<Slices>> {
+        let mut row = self.table.row()?;
+        let text = self.text.to_vec();
+        let told = rows::read_function(&text, &mut row);
+        assert!(
+            text == self.text,
+            "{self}\nlibrary, on a row: the text has changed"
+        );
+        Some(of_reading(told, Slices::of_row(&row)))
     }
 
     fn by_second(&self) -> Given<Slices> {

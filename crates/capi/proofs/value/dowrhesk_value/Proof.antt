@@ -1,7 +1,7 @@
 -- `dowrhesk_value` meets its contract: what is told is the answer of the entry, which is the one defined.
 use mathlib.Core.Path.{subst}
 use borrow.Author.Needs.{needs}
-use Rattle.capi.specs.Told.{ToldValue}
+use Rattle.telling.specs.Told.{ToldValue}
 use Rattle.capi.proofs.value.dowrhesk_value.Statement.{statement}
 use Rattle.capi.proofs.value.dowrhesk_value.Tie as tie
 

@@ -1,7 +1,7 @@
 -- `dowrhesk_check` meets its contract: what is told is the answer of the entry, which is the one defined.
 use mathlib.Core.Path.{subst}
 use borrow.Author.Needs.{needs}
-use Rattle.capi.specs.Told.{ToldVerdict}
+use Rattle.telling.specs.Told.{ToldVerdict}
 use Rattle.capi.proofs.verdict.dowrhesk_check.Statement.{statement}
 use Rattle.capi.proofs.verdict.dowrhesk_check.Tie as tie
 

@@ -1,8 +1,8 @@
 -- `told::tell` meets its contract: each arm tells its own case of the answer.
 use borrow.Author.Needs.{needs}
-use Rattle.capi.proofs.Telling.{done-told, refused-told}
-use Rattle.capi.proofs.told.tell.Statement.{statement}
-use Rattle.capi.proofs.told.tell.Tie as tie
+use Rattle.telling.proofs.Telling.{done-told, refused-told}
+use Rattle.telling.proofs.told.tell.Statement.{statement}
+use Rattle.telling.proofs.told.tell.Tie as tie
 
 enum-known-answer : tie.Need-enum-known-answer
 enum-known-answer c = search needs

@@ -1,8 +1,8 @@
 -- `told::tell_verdict` meets its contract: each arm tells its own case of the answer.
 use borrow.Author.Needs.{needs}
-use Rattle.capi.proofs.Telling.{accept-told, off-told, missing-told, literal-told, cube-told, check-refused-told}
-use Rattle.capi.proofs.told.tell_verdict.Statement.{statement}
-use Rattle.capi.proofs.told.tell_verdict.Tie as tie
+use Rattle.telling.proofs.Telling.{accept-told, off-told, missing-told, literal-told, cube-told, check-refused-told}
+use Rattle.telling.proofs.told.tell_verdict.Statement.{statement}
+use Rattle.telling.proofs.told.tell_verdict.Tie as tie
 
 enum-told : tie.Need-enum-told
 enum-told c = search needs

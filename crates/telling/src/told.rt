@@ -1,5 +1,5 @@
 // Answers told in numbers.
-ghost use Rattle.capi.specs.Told.{Told, ToldValue, ToldList, ToldVerdict, ToldWritten, ToldCandidate, ToldFunction};
+ghost use Rattle.telling.specs.Told.{Told, ToldValue, ToldList, ToldVerdict, ToldWritten, ToldCandidate, ToldFunction};
 use checker::judged::Judged;
 use graph::entry::Answer;
 use graph::entry::Valued;

@@ -23,8 +23,8 @@ use Rattle.text.specs.declared.candidate.Candidate.the-variants as candidate
 use Rattle.text.specs.Function.{functionNumbers}
 use Rattle.text.specs.declared.function.Function.{Function}
 use Rattle.text.specs.declared.function.Function.the-variants as function
-use Rattle.capi.specs.Told.{rootAndCount, valueAlone, returnedAndLength, verdictNumbersOf, kindAndValues, returnedAndWritten, returnedAndRows}
-use Rattle.capi.specs.Told.{returnedAndFunction, Told, ToldValue, ToldList, ToldVerdict, ToldWritten, ToldCandidate, ToldFunction}
+use Rattle.telling.specs.Told.{rootAndCount, valueAlone, returnedAndLength, verdictNumbersOf, kindAndValues, returnedAndWritten, returnedAndRows}
+use Rattle.telling.specs.Told.{returnedAndFunction, Told, ToldValue, ToldList, ToldVerdict, ToldWritten, ToldCandidate, ToldFunction}
 
 pub done-told : {a : Answer} {x : ℕ} {c : ℕ} → a ≡ Done x c → Told a 0 (x ∷ c ∷ [])
 unfolding numbersOf rootAndCount

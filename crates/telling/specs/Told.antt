@@ -1,23 +1,20 @@
 -- How an answer is told in numbers: a status as the result, the other numbers in a lent array.
 use mathlib.Core.Path.{_≡_}
-use mathlib.Core.Bool.{Bool, cond}
+use mathlib.Core.Bool.{cond}
 use mathlib.Core.List.{List, [], _∷_}
 use Prim.Native.Nat.{ℕ}
-use Rattle.rule.specs.Func.{Fn}
-use Rattle.graph.specs.Entry.{numbersOf, valueOf, Operated}
+use Rattle.graph.specs.Entry.{numbersOf, valueOf}
 use Rattle.graph.specs.declared.entry.Answer.{Answer}
 use Rattle.graph.specs.declared.entry.Valued.{Valued}
-use Rattle.list.specs.Entry.{Generates}
 use Rattle.list.specs.Entry as list
 use Rattle.list.specs.declared.entry.Generated.{Generated}
 use Rattle.checker.specs.declared.judged.Judged.{Judged}
 use Rattle.checker.specs.declared.judged.Judged.the-variants as judged
-use Rattle.text.specs.Writing.{Wrote}
 use Rattle.text.specs.Writing as writing
 use Rattle.text.specs.declared.writing.Written.{Written}
-use Rattle.text.specs.Candidate.{Read, readNumbers}
+use Rattle.text.specs.Candidate.{readNumbers}
 use Rattle.text.specs.declared.candidate.Candidate.{Candidate}
-use Rattle.text.specs.Function.{ReadsFunction, functionNumbers}
+use Rattle.text.specs.Function.{functionNumbers}
 use Rattle.text.specs.declared.function.Function.{Function}
 
 -- What the array of an operation holds: the root, then the count of records in use.
@@ -103,33 +100,3 @@ pub record ToldCandidate (a : Candidate) (status : ℕ) (out : List ℕ) : Type 
 pub record ToldFunction (a : Function) (status : ℕ) (out : List ℕ) : Type 0 where
   pub refusal : status ≡ functionNumbers a .refusal
   pub numbers : out ≡ returnedAndFunction a
-
--- An operation that builds, with the result f: an answer that it allows is told.
-pub record Operating (n : ℕ) (c : ℕ) (v : List ℕ) (l : List ℕ) (h : List ℕ) (ranged : Bool) (f : Fn n) (v′ : List ℕ) (l′ : List ℕ) (h′ : List ℕ) (status : ℕ) (out : List ℕ) : Type 0 where
-  pub answer : Answer
-  pub operated : Operated n c v l h ranged f v′ l′ h′ answer
-  pub told : Told answer status out
-
--- The generator, for the roots a and b: the answer that it allows is told.
-pub record Generating (n : ℕ) (c : ℕ) (v : List ℕ) (l : List ℕ) (h : List ℕ) (a : ℕ) (b : ℕ) (room : List ℕ) (v′ : List ℕ) (l′ : List ℕ) (h′ : List ℕ) (room′ : List ℕ) (status : ℕ) (out : List ℕ) : Type 0 where
-  pub answer : Generated
-  pub generates : Generates n c v l h a b room v′ l′ h′ room′ answer
-  pub told : ToldList answer status out
-
--- The writing of a list xs for n columns: the answer that it allows is told.
-pub record WritingList (n : ℕ) (xs : List ℕ) (room : List ℕ) (room′ : List ℕ) (status : ℕ) (out : List ℕ) : Type 0 where
-  pub answer : Written
-  pub wrote : Wrote n xs room room′ answer
-  pub told : ToldWritten answer status out
-
--- The reading of a candidate for n columns: the answer that it allows is told.
-pub record ReadingCandidate (n : ℕ) (text : List ℕ) (room : List ℕ) (room′ : List ℕ) (status : ℕ) (out : List ℕ) : Type 0 where
-  pub answer : Candidate
-  pub read : Read n text room room′ answer
-  pub told : ToldCandidate answer status out
-
--- The reading of a function text: the answer that it allows is told.
-pub record ReadingFunction (text : List ℕ) (v : List ℕ) (l : List ℕ) (h : List ℕ) (v′ : List ℕ) (l′ : List ℕ) (h′ : List ℕ) (status : ℕ) (out : List ℕ) : Type 0 where
-  pub answer : Function
-  pub reads : ReadsFunction text v l h v′ l′ h′ answer
-  pub told : ToldFunction answer status out

@@ -1,0 +1,2 @@
+-- How answers are told.
+pub mod Told
