@@ -2,3 +2,4 @@
 pub mod Cubes
 pub mod Joining
 pub mod Names
+pub mod Keeping

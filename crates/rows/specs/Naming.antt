@@ -14,6 +14,7 @@ use Rattle.graph.specs.declared.build.Made.the-variants as Made
 use Rattle.line.specs.Meaning.{kindOf, outOf}
 use Rattle.line.specs.declared.meaning.Kind.{Kind}
 use Rattle.line.specs.declared.meaning.Out.{Out}
+use Rattle.memo.specs.Memo.{Holds}
 use Rattle.rows.specs.declared.naming.Part.{Part}
 use Rattle.rows.specs.declared.naming.Part.the-variants.{On, Other, Nothing}
 use Rattle.rows.specs.declared.naming.Sets.{Sets}
@@ -62,3 +63,8 @@ module _ (n : ℕ) (t : Rows.Kind) (rows : List Rows.Row) (room : ℕ) (v : List
   unfoldable pub NamedOf : Sets → Type 0
   NamedOf (Done on other c) = (length v ≡ room) × Named n t rows v l h on other c
   NamedOf Full = (length v ≡ room) × Unnamed n t rows room v l h
+
+-- The memo holds in the table that naming a row leaves. Where there is no room, nothing is said of it.
+unfoldable pub SetsHold : ℕ → List ℕ → List ℕ → List ℕ → List ℕ → Sets → Type 0
+SetsHold n v l h memo (Done on other c) = Holds n c v l h memo
+SetsHold n v l h memo Full = Unit {0}

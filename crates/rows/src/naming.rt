@@ -9,13 +9,14 @@ ghost use Rattle.graph.specs.Table.{tableOf, fnOf};
 ghost use Rattle.graph.specs.Sound.{Rooted, RootedTwice};
 ghost use Rattle.graph.specs.Built.{MadeOf};
 ghost use Rattle.line.specs.Meaning.{kindOf, rowOf};
-ghost use Rattle.rows.specs.Naming.{partFor, JoinedOf, Named, NamedOf};
+ghost use Rattle.memo.specs.Memo.{Holds, HoldsAfter};
+ghost use Rattle.rows.specs.Naming.{partFor, JoinedOf, Named, NamedOf, SetsHold};
 use crate::cube;
-use graph::build;
 use graph::build::Made;
 use graph::operation::Op;
 use line::meaning::Kind;
 use line::meaning::Out;
+use memo::build;
 
 // The set that a row joins: on, the other one (don't care, in fr off), or none.
 pub enum Part {
@@ -55,13 +56,14 @@ fn join_cube(
     level: &mut [u16],
     low: &mut [u16],
     high: &mut [u16],
+    memo: &mut [u64],
     columns: u16,
     count: usize,
     set: u16,
     cube: u32,
 ) -> Made
-    requires { ⌜ Rooted columns count (now level) (now low) (now high) 0 set ⌝ }
-    ensures { λ r. ⌜ JoinedOf columns count (now (level .entry)) (now (low .entry)) (now (high .entry)) (now (level .exit)) (now (low .exit)) (now (high .exit)) (fnOf (tableOf (now (level .entry)) (now (low .entry)) (now (high .entry))) 0 columns set) (cubeFn columns (signs columns cube)) r ⌝ }
+    requires { ⌜ Rooted columns count (now level) (now low) (now high) 0 set × Holds columns count (now level) (now low) (now high) (now memo) ⌝ }
+    ensures { λ r. ⌜ JoinedOf columns count (now (level .entry)) (now (low .entry)) (now (high .entry)) (now (level .exit)) (now (low .exit)) (now (high .exit)) (fnOf (tableOf (now (level .entry)) (now (low .entry)) (now (high .entry))) 0 columns set) (cubeFn columns (signs columns cube)) r × HoldsAfter columns (now (level .exit)) (now (low .exit)) (now (high .exit)) (now (memo .exit)) r ⌝ }
 {
     let Made::Done(x, c) = cube::cube_from(
         level,
@@ -75,7 +77,7 @@ fn join_cube(
     ) else {
         return Made::Full;
     };
-    build::apply(Op::Or, level, low, high, columns, c, 0, set, x)
+    build::apply(Op::Or, level, low, high, memo, columns, c, 0, set, x)
 }
 
 // A row after those already named.
@@ -83,6 +85,7 @@ pub fn name_row(
     level: &mut [u16],
     low: &mut [u16],
     high: &mut [u16],
+    memo: &mut [u64],
     columns: u16,
     count: usize,
     kind: Kind,
@@ -91,18 +94,20 @@ pub fn name_row(
     cube: u32,
     out: Out,
 ) -> Sets
-    requires { ⌜ RootedTwice columns count (now level) (now low) (now high) 0 on other ⌝ }
-    ensures { λ r. ⌜ ((seen : List Row) → Named columns (kindOf kind) seen (now (level .entry)) (now (low .entry)) (now (high .entry)) on other count → NamedOf columns (kindOf kind) (seen ++ (rowOf columns cube out ∷ [])) (length (now (level .entry))) (now (level .exit)) (now (low .exit)) (now (high .exit)) r) ⌝ }
+    requires { ⌜ RootedTwice columns count (now level) (now low) (now high) 0 on other × Holds columns count (now level) (now low) (now high) (now memo) ⌝ }
+    ensures { λ r. ⌜ ((seen : List Row) → Named columns (kindOf kind) seen (now (level .entry)) (now (low .entry)) (now (high .entry)) on other count → NamedOf columns (kindOf kind) (seen ++ (rowOf columns cube out ∷ [])) (length (now (level .entry))) (now (level .exit)) (now (low .exit)) (now (high .exit)) r) × SetsHold columns (now (level .exit)) (now (low .exit)) (now (high .exit)) (now (memo .exit)) r ⌝ }
 {
     match part_of(kind, out) {
         Part::On => {
-            let Made::Done(x, c) = join_cube(level, low, high, columns, count, on, cube) else {
+            let Made::Done(x, c) = join_cube(level, low, high, memo, columns, count, on, cube)
+            else {
                 return Sets::Full;
             };
             Sets::Done(x, other, c)
         }
         Part::Other => {
-            let Made::Done(x, c) = join_cube(level, low, high, columns, count, other, cube) else {
+            let Made::Done(x, c) = join_cube(level, low, high, memo, columns, count, other, cube)
+            else {
                 return Sets::Full;
             };
             Sets::Done(on, x, c)
@@ -116,23 +121,25 @@ pub fn name_upper(
     level: &mut [u16],
     low: &mut [u16],
     high: &mut [u16],
+    memo: &mut [u64],
     columns: u16,
     count: usize,
     kind: Kind,
     on: u16,
     other: u16,
 ) -> Made
-    requires { ⌜ RootedTwice columns count (now level) (now low) (now high) 0 on other ⌝ }
-    ensures { λ r. ⌜ ((rows : List Row) → Named columns (kindOf kind) rows (now (level .entry)) (now (low .entry)) (now (high .entry)) on other count → MadeOf columns count (now (level .entry)) (now (low .entry)) (now (high .entry)) (now (level .exit)) (now (low .exit)) (now (high .exit)) 0 columns (upperOf columns (kindOf kind) rows) r) ⌝ }
+    requires { ⌜ RootedTwice columns count (now level) (now low) (now high) 0 on other × Holds columns count (now level) (now low) (now high) (now memo) ⌝ }
+    ensures { λ r. ⌜ ((rows : List Row) → Named columns (kindOf kind) rows (now (level .entry)) (now (low .entry)) (now (high .entry)) on other count → MadeOf columns count (now (level .entry)) (now (low .entry)) (now (high .entry)) (now (level .exit)) (now (low .exit)) (now (high .exit)) 0 columns (upperOf columns (kindOf kind) rows) r) × HoldsAfter columns (now (level .exit)) (now (low .exit)) (now (high .exit)) (now (memo .exit)) r ⌝ }
 {
     match kind {
         Kind::F => Made::Done(on, count),
-        Kind::Fd => build::apply(Op::Or, level, low, high, columns, count, 0, on, other),
+        Kind::Fd => build::apply(Op::Or, level, low, high, memo, columns, count, 0, on, other),
         Kind::Fr => build::apply(
             Op::Difference,
             level,
             low,
             high,
+            memo,
             columns,
             count,
             0,

@@ -7,7 +7,8 @@ ghost use Rattle.rule.specs.Rows.{Row};
 ghost use Rattle.graph.specs.Sound.{Sound, RootedTwice};
 ghost use Rattle.line.specs.Bytes.{lines};
 ghost use Rattle.line.specs.Meaning.{kindOf};
-ghost use Rattle.rows.specs.Naming.{Named, NamedOf};
+ghost use Rattle.memo.specs.Memo.{Holds};
+ghost use Rattle.rows.specs.Naming.{Named, NamedOf, SetsHold};
 ghost use Rattle.text.specs.Function.{rowIn, rowsIn, BuiltOf, SettledOf, ReadsFunction};
 use crate::candidate;
 use crate::judge;
@@ -33,6 +34,7 @@ fn name_line(
     level: &mut [u16],
     low: &mut [u16],
     high: &mut [u16],
+    memo: &mut [u64],
     columns: u16,
     count: usize,
     kind: Kind,
@@ -40,14 +42,15 @@ fn name_line(
     other: u16,
     line: Line,
 ) -> Sets
-    requires { ⌜ RootedTwice columns count (now level) (now low) (now high) 0 on other ⌝ }
-    ensures { λ r. ⌜ ((seen : List Row) → Named columns (kindOf kind) seen (now (level .entry)) (now (low .entry)) (now (high .entry)) on other count → NamedOf columns (kindOf kind) (seen ++ rowIn columns line) (length (now (level .entry))) (now (level .exit)) (now (low .exit)) (now (high .exit)) r) ⌝ }
+    requires { ⌜ RootedTwice columns count (now level) (now low) (now high) 0 on other × Holds columns count (now level) (now low) (now high) (now memo) ⌝ }
+    ensures { λ r. ⌜ ((seen : List Row) → Named columns (kindOf kind) seen (now (level .entry)) (now (low .entry)) (now (high .entry)) on other count → NamedOf columns (kindOf kind) (seen ++ rowIn columns line) (length (now (level .entry))) (now (level .exit)) (now (low .exit)) (now (high .exit)) r) × SetsHold columns (now (level .exit)) (now (low .exit)) (now (high .exit)) (now (memo .exit)) r ⌝ }
 {
     match line {
         Line::Row(_, cube, out) => naming::name_row(
             level,
             low,
             high,
+            memo,
             columns,
             count,
             kind,
@@ -72,11 +75,12 @@ fn name_rows(
     level: &mut [u16],
     low: &mut [u16],
     high: &mut [u16],
+    memo: &mut [u64],
     columns: u16,
     kind: Kind,
 ) -> Sets
-    requires { ⌜ (length (now text) ≤ 32768) × Sound columns 0 (now level) (now low) (now high) ⌝ }
-    ensures { λ r. ⌜ NamedOf columns (kindOf kind) (rowsIn columns (lines (now (text .entry)))) (length (now (level .entry))) (now (level .exit)) (now (low .exit)) (now (high .exit)) r ⌝ }
+    requires { ⌜ (length (now text) ≤ 32768) × Sound columns 0 (now level) (now low) (now high) × Holds columns 0 (now level) (now low) (now high) (now memo) ⌝ }
+    ensures { λ r. ⌜ NamedOf columns (kindOf kind) (rowsIn columns (lines (now (text .entry)))) (length (now (level .entry))) (now (level .exit)) (now (low .exit)) (now (high .exit)) r × SetsHold columns (now (level .exit)) (now (low .exit)) (now (high .exit)) (now (memo .exit)) r ⌝ }
 {
     let mut at = 0;
     let mut on: u16 = 0;
@@ -88,8 +92,18 @@ fn name_rows(
         if candidate::ends(told) {
             return Sets::Done(on, other, count);
         }
-        let Sets::Done(a, b, c) = name_line(level, low, high, columns, count, kind, on, other, told)
-        else {
+        let Sets::Done(a, b, c) = name_line(
+            level,
+            low,
+            high,
+            memo,
+            columns,
+            count,
+            kind,
+            on,
+            other,
+            told,
+        ) else {
             return Sets::Full;
         };
         on = a;
@@ -100,7 +114,7 @@ fn name_rows(
     Sets::Done(on, other, count)
 }
 
-// The rows, then U, then the test for a point both on and off.
+// The rows, then U, by one memo, then the test for a point both on and off.
 fn build_function(
     text: &[u8],
     level: &mut [u16],
@@ -112,11 +126,22 @@ fn build_function(
     requires { ⌜ (length (now text) ≤ 32768) × Sound columns 0 (now level) (now low) (now high) ⌝ }
     ensures { λ r. ⌜ BuiltOf columns (kindOf kind) (rowsIn columns (lines (now (text .entry)))) (length (now (level .entry))) (now (level .exit)) (now (low .exit)) (now (high .exit)) r ⌝ }
 {
-    let Sets::Done(on, other, c) = name_rows(text, level, low, high, columns, kind) else {
+    let mut memo = [0u64; 1024];
+    let Sets::Done(on, other, c) = name_rows(text, level, low, high, &mut memo, columns, kind)
+    else {
         return Function::Refused(refusal::NODES_LACK, 0);
     };
-    let Made::Done(upper, count) = naming::name_upper(level, low, high, columns, c, kind, on, other)
-    else {
+    let Made::Done(upper, count) = naming::name_upper(
+        level,
+        low,
+        high,
+        &mut memo,
+        columns,
+        c,
+        kind,
+        on,
+        other,
+    ) else {
         return Function::Refused(refusal::NODES_LACK, 0);
     };
     if !walk::within_from(level, low, high, count, columns, 0, on, upper) {
