@@ -51,13 +51,28 @@ pub fn instructions(
     within: &str,
     input: Option<&Path>,
 ) -> Option<u64> {
+    let within = format!("--toggle-collect={within}");
+    callgrind(&[&within], program, words, input)
+}
+
+/// Those of its whole run, from its start to its end.
+pub fn whole_instructions(program: &Path, input: &Path) -> Option<u64> {
+    callgrind(&[], program, &[], Some(input))
+}
+
+fn callgrind(
+    options: &[&str],
+    program: &Path,
+    words: &[&str],
+    input: Option<&Path>,
+) -> Option<u64> {
     if !installed("valgrind") {
         return None;
     }
     let input = input.map_or(Stdio::null(), |file| File::open(file).unwrap().into());
     let output = Command::new("valgrind")
         .args(["--tool=callgrind", "--callgrind-out-file=/dev/null"])
-        .arg(format!("--toggle-collect={within}"))
+        .args(options)
         .arg(program)
         .args(words)
         .stdin(input)

@@ -1,7 +1,7 @@
-//! The programs of this build beside those of another, on every text of the corpus: instructions of
-//! `main`, reading and writing included.
+//! The programs of this build beside those of another, on every text of the corpus: the instructions
+//! of whole runs.
 
-use crate::measure::instructions;
+use crate::measure::whole_instructions;
 use programs::corpus::cases;
 use std::path::Path;
 
@@ -9,7 +9,7 @@ pub fn write(folder: &Path) {
     let mut rows = Vec::new();
     for case in cases() {
         let file = case.input_file();
-        let count = |program: &Path| instructions(program, &[], "main", Some(&file));
+        let count = |program: &Path| whole_instructions(program, &file);
         let built = case.program.built();
         let other = folder.join(case.program.name());
         let (Some(here), Some(there)) = (count(&built), count(&other)) else {

@@ -26,7 +26,7 @@ use Rattle.line.proofs.Decimal.{length-one, length-two, length-three, length-fo
 use Rattle.list.specs.Entry.{lower, upper, theList, roomConditions, refusal, answerFor, changesNothing, roomLeft, Generates}
 use Rattle.list.specs.declared.entry.Generated.{Generated}
 use Rattle.list.specs.declared.entry.Generated.the-variants as made
-use Rattle.list.proofs.Writing.{list-bound}
+use Rattle.listmemo.proofs.Writing.{list-bound}
 use Rattle.text.specs.Writing.{listText, roomBy, roomWritten, Wrote}
 use Rattle.text.specs.declared.writing.Written.{Written}
 use Rattle.text.specs.declared.writing.Written.the-variants as written

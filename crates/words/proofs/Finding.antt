@@ -1,23 +1,20 @@
--- The search for the smallest point of a table that a cube covers, step by step as the code goes: a single word, nothing in any
--- word, and the halves by the sign of the first column.
+-- The search for the smallest point of a table that a cube covers, step by step as the code goes: a single word, one word
+-- against each word, and the halves by the sign of the first column.
 use mathlib.Core.Path.{_≡_, refl, sym, ap, ap₂, _∙_}
-use mathlib.Core.Bool.{Bool, true, false, _&&_}
-use mathlib.Core.List.{List, [], _∷_}
+use mathlib.Core.Bool.{Bool, true, false}
+use mathlib.Core.List.{List}
 use Prim.Native.Nat.{ℕ, suc, _-_, _*_, _/_, _%_, _^_, _<_, _≤_}
 use native.Mathlib.Nat.{pow-suc}
 use native.Mathlib.Omega.{arith}
-use lib.Bits.{bitAnd, and-comm}
-use lib.Dec.{eqb}
+use lib.Bits.{bitAnd}
 use lib.ListN.{length, getD, take, drop, replicate}
 use lib.Pow.{pow-mono}
-use borrow.Author.Tests.{eqb-true}
 use Rattle.rule.specs.Func.{Fn, constant, joined, both}
 use Rattle.rule.specs.Point.{odd, smallest}
-use Rattle.rule.proofs.Bools.{and-left, and-right}
-use Rattle.words.specs.Word.{words, size, cubeOf, foundNumber, plain, noneMeets, wordwise}
-use Rattle.words.specs.Contract.{SizedWord, FirstBit, FirstIn}
+use Rattle.words.specs.Word.{words, size, cubeOf, foundNumber, plain, wordwise}
+use Rattle.words.specs.Contract.{SizedWord, FirstBit, FirstUnder, FirstIn}
 use Rattle.words.proofs.Num.{num-both}
-use Rattle.words.proofs.Tables.{words-few, words-both, words-false, words-tell}
+use Rattle.words.proofs.Tables.{words-few, words-both}
 use Rattle.words.proofs.Least.{none-found, found-in-low, found-in-high, both-false}
 use Rattle.words.proofs.Cubes.{cube-one, cube-zero, cube-dash, leaf-few, leaf-next, words-plain, is-odd, is-even}
 use Rattle.words.proofs.Halving.{by-suc}
@@ -34,28 +31,16 @@ one-word m o z w xs r s h b =
           sym (num-both m (cubeOf m o z) f));
     }
 
--- No word of a list meets a word: each is 0 where both are.
-none-met : (w : ℕ) (xs : List ℕ) → noneMeets w xs ≡ true → wordwise bitAnd (replicate (length xs) w) xs ≡ replicate (length xs) 0
-unfolding noneMeets wordwise
-none-met w [] e = refl
-none-met w (x ∷ xs) e =
-    ap₂ _∷_
-    (and-comm w x ∙ eqb-true (bitAnd x w) 0 (and-left (eqb (bitAnd x w) 0) (noneMeets w xs) e))
-    (none-met w xs (and-right (eqb (bitAnd x w) 0) (noneMeets w xs) e))
-
-pub nothing-met : (m o z w : ℕ) (xs : List ℕ) (t : Bool) → SizedWord m o z w xs → t ≡ (plain m o z && noneMeets w xs) → t ≡ true → FirstIn m o z xs 0
-nothing-met m o z w xs t s d y = record { bound = omega arith; found = found }
-  where
-    found : (f : Fn m) → xs ≡ words m f → 0 ≡ foundNumber (smallest m (both m (cubeOf m o z) f))
-    found f p =
-        let e : (plain m o z && noneMeets w xs) ≡ true = sym d ∙ y in
-        let a : words m (cubeOf m o z) ≡ replicate (length xs) w =
-        words-plain m o z (and-left (plain m o z) (noneMeets w xs) e) ∙ ap₂ replicate (sym (s .long)) (sym (s .word)) in
-        let b : words m (both m (cubeOf m o z) f) ≡ words m (constant m false) =
-        words-both m (cubeOf m o z) f ∙ ap₂ (wordwise bitAnd) a (sym p) ∙
-        none-met w xs (and-right (plain m o z) (noneMeets w xs) e) ∙
-        ap (λ n. replicate n 0) (s .long) ∙ sym (words-false m) in
-        sym (ap (λ g. foundNumber (smallest m g)) (words-tell m (both m (cubeOf m o z) f) (constant m false) b) ∙ none-found m)
+-- Dashes before the last six columns: the cube's one word against each word of the table.
+pub all-dashes-found : (m o z w : ℕ) (xs : List ℕ) (t : Bool) (r : ℕ) → SizedWord m o z w xs → t ≡ plain m o z → t ≡ true → FirstUnder m w xs r → FirstIn m o z xs r
+all-dashes-found m o z w xs t r s d y u =
+    record {
+      bound = u .bound;
+      found = λ f p.
+          u .found (both m (cubeOf m o z) f)
+          (words-both m (cubeOf m o z) f ∙
+          ap₂ (wordwise bitAnd) (words-plain m o z (sym d ∙ y) ∙ ap (replicate (size m)) (sym (s .word))) (sym p));
+    }
 
 -- The halves of a table of more than six columns, as the code cuts it.
 abbrev lowOf : List ℕ → List ℕ

@@ -1,21 +1,18 @@
 -- What the loops over whole tables leave, said of the functions whose tables they were.
 use mathlib.Core.Path.{_≡_, sym, ap, ap₂, _∙_}
-use mathlib.Core.Bool.{Bool, true, false, _&&_}
-use mathlib.Core.List.{List, _∷_}
+use mathlib.Core.Bool.{Bool, true}
+use mathlib.Core.List.{List}
+use mathlib.Core.Logic.{_⊎_, inl, inr}
 use Prim.Native.Nat.{ℕ, _+_, _<_, _≤_}
-use native.Mathlib.Numerals.{add-one}
 use native.Mathlib.Omega.{arith}
 use lib.Bits.{bitAnd, bitOr}
-use lib.Dec.{eqb}
-use lib.ListN.{length, getD, drop, replicate, length-replicate, getD-replicate, drop-of-length-le}
-use lib.Seq.{drop-cons}
-use borrow.Author.Tests.{eq-eqb, ne-eqb}
+use lib.ListN.{length, getD, replicate, length-replicate, getD-replicate}
 use Rattle.rule.specs.Func.{constant}
-use Rattle.words.specs.Word.{words, size, wordwise, noneMeets}
+use Rattle.words.specs.Word.{words, size, wordwise}
 use Rattle.words.specs.Contract.{ConstantWord, Lessened, Outside}
 use Rattle.words.proofs.Num.{lessWord}
 use Rattle.words.proofs.Tables.{words-less}
-use Rattle.words.proofs.Loops.{SoFar, so-far-end, length-wordwise, getD-wordwise}
+use Rattle.words.proofs.Loops.{SoFar, which, so-far-end, length-wordwise, getD-wordwise}
 
 -- A table filled with the word of a constant.
 pub filled : (m : ℕ) (b : Bool) (w : ℕ) {old now : List ℕ} {i : ℕ} → ConstantWord m b w → length old ≡ size m
@@ -63,20 +60,14 @@ added-again w covered old {i = i} s h e =
     ap (bitOr (getD old k 0)) (sym (getD-wordwise bitAnd (replicate (length covered) w) covered k r b)) ∙
     sym (getD-wordwise bitOr old (wordwise bitAnd (replicate (length covered) w) covered) k t l))
 
--- Whether any word from a place on meets a word, by the word at that place.
-none-step : (w : ℕ) (xs : List ℕ) (i : ℕ) → i < length xs → noneMeets w (drop i xs) ≡ (eqb (bitAnd (getD xs i 0) w) 0 && noneMeets w (drop (i + 1) xs))
-unfolding noneMeets
-none-step w xs i h = ap (noneMeets w) (drop-cons xs i 0 h ∙ ap (λ k. getD xs i 0 ∷ drop k xs) (sym (add-one i)))
-
-pub meets-here : (w : ℕ) (xs : List ℕ) (i : ℕ) → i < length xs → (bitAnd (getD xs i 0) w ≡ 0 → ⊥) → noneMeets w (drop i xs) ≡ false
-meets-here w xs i h n = none-step w xs i h ∙ ap (λ b. b && noneMeets w (drop (i + 1) xs)) (ne-eqb (bitAnd (getD xs i 0) w) 0 n)
-
-pub meets-later : (w : ℕ) (xs : List ℕ) (i : ℕ) → i < length xs → bitAnd (getD xs i 0) w ≡ 0 → noneMeets w (drop i xs) ≡ noneMeets w (drop (i + 1) xs)
-meets-later w xs i h e = none-step w xs i h ∙ ap (λ b. b && noneMeets w (drop (i + 1) xs)) (eq-eqb (bitAnd (getD xs i 0) w) 0 e)
-
-pub meets-nothing : (w : ℕ) (xs : List ℕ) (i : ℕ) → length xs ≤ i → noneMeets w (drop i xs) ≡ true
-unfolding noneMeets
-meets-nothing w xs i h = ap (noneMeets w) (drop-of-length-le xs h)
+-- No word before a place meets a word, nor does the one at that place.
+pub none-yet : (w : ℕ) (xs : List ℕ) (i : ℕ) → ((k : ℕ) → k < i → bitAnd (getD xs k 0) w ≡ 0) → bitAnd (getD xs i 0) w ≡ 0
+    → (k : ℕ) → k < i + 1 → bitAnd (getD xs k 0) w ≡ 0
+none-yet w xs i before e k h = go (which k i (omega arith))
+  where
+    go : (k < i) ⊎ (k ≡ i) → bitAnd (getD xs k 0) w ≡ 0
+    go (inl l) = before k l
+    go (inr p) = ap (λ n. bitAnd (getD xs n 0) w) p ∙ e
 
 -- Every point less a table: one word less each word.
 pub outside-end : (m w : ℕ) (old : List ℕ) {now : List ℕ} {i : ℕ} → ConstantWord m true w → length old ≡ size m

@@ -2,11 +2,13 @@
 use mathlib.Core.Path.{_≡_, refl, sym, ap, ap₂, _∙_, subst}
 use mathlib.Core.Bool.{Bool, true, false}
 use Prim.Native.Nat.{ℕ, zero, suc, _+_, _-_, _*_, _/_, _%_, _^_, _<_, _≤_}
-use native.Mathlib.Nat.{pow-suc, add-zero}
+use native.Mathlib.Nat.{pow-suc, add-zero, div-add-mod'}
 use native.Mathlib.Omega.{arith}
 use lib.Arith.{digits-lt}
 use lib.Bits.{bitAnd, bitOr, and-mask, or-shifted}
+use lib.Dec.{eqb}
 use lib.Pow.{pow-mono, shl-exact}
+use borrow.Author.Tests.{eqb-true, eqb-false}
 use Rattle.rule.specs.Func.{Fn, constant}
 use Rattle.rule.specs.Point.{bit, odd, pointNumber, smallest}
 use Rattle.words.specs.Word.{num, cubeOf, foundNumber, leaf}
@@ -111,12 +113,13 @@ module _ (m w : ℕ) where
   no-bit e =
       record {
         bound = omega arith;
+        some = λ n. absurd (n e);
         found = λ f p. sym (ap (λ g. foundNumber (smallest m g)) (num-zero m f (sym p ∙ e)) ∙ none-found m);
       }
 
 pub one-bit : (w : ℕ) → (w ≡ 0 → ⊥) → FirstBit 0 w 1
 unfolding num smallest foundNumber pointNumber bit
-one-bit w h = record { bound = omega arith; found = found }
+one-bit w h = record { bound = omega arith; some = λ n. omega arith; found = found }
   where
     found : (f : Bool) → w ≡ num 0 f → 1 ≡ foundNumber (smallest 0 f)
     found true p = refl
@@ -130,10 +133,25 @@ module _ (m w s n : ℕ) (h : m < 6) (side : s ≡ 2 ^ (2 ^ m)) (points : n ≡ 
   high-half : (f : Fn (suc m)) → w ≡ num (suc m) f → w / 2 ^ n ≡ num m (f .1)
   high-half f p = ap₂ (λ x k. x / 2 ^ k) p points ∙ num-high m f
 
+  -- A word both of whose halves are 0 is 0.
+  both-zero : bitAnd w (s - 1) ≡ 0 → w / 2 ^ n ≡ 0 → w ≡ 0
+  both-zero p q =
+      let a : w % 2 ^ (2 ^ m) ≡ 0 = sym (ap (λ k. bitAnd w (k - 1)) side ∙ and-mask w (2 ^ m)) ∙ p in
+      let b : w / 2 ^ (2 ^ m) ≡ 0 = ap (λ k. w / 2 ^ k) (sym points) ∙ q in
+      sym (div-add-mod' w (2 ^ (2 ^ m))) ∙ ap₂ (λ x y. x * 2 ^ (2 ^ m) + y) b a ∙ omega arith
+
+  low-zero : (r : ℕ) → FirstBit m (bitAnd w (s - 1)) r → r ≡ 0 → bitAnd w (s - 1) ≡ 0
+  low-zero r b q = go (eqb (bitAnd w (s - 1)) 0) refl
+    where
+      go : (t : Bool) → eqb (bitAnd w (s - 1)) 0 ≡ t → bitAnd w (s - 1) ≡ 0
+      go true e = eqb-true (bitAnd w (s - 1)) 0 e
+      go false e = let l : 0 < r = b .some (eqb-false (bitAnd w (s - 1)) 0 e) in let z : ⊥ = omega arith in absurd z
+
   pub bit-in-low : (r : ℕ) → FirstBit m (bitAnd w (s - 1)) r → (r ≡ 0 → ⊥) → FirstBit (suc m) w (2 * r - 1)
   bit-in-low r b q =
       record {
         bound = omega (arith, b .bound, pow-suc 2 m);
+        some = λ n. omega arith;
         found = λ f p.
             let e : r ≡ foundNumber (smallest m (f .0)) = b .found (f .0) (low-half f p) in
             ap (λ k. 2 * k - 1) e ∙ sym (found-in-low m f (λ x. q (e ∙ x)));
@@ -143,6 +161,7 @@ module _ (m w s n : ℕ) (h : m < 6) (side : s ≡ 2 ^ (2 ^ m)) (points : n ≡ 
   bit-in-high r t b q d =
       record {
         bound = omega (arith, d .bound, pow-suc 2 m);
+        some = λ n. let l : 0 < t = d .some (λ e. n (both-zero (low-zero r b q) e)) in omega arith;
         found = λ f p.
             let e : r ≡ foundNumber (smallest m (f .0)) = b .found (f .0) (low-half f p) in
             let g : t ≡ foundNumber (smallest m (f .1)) = d .found (f .1) (high-half f p) in

@@ -7,6 +7,7 @@ pub mod Halving
 pub mod Halves
 pub mod Loops
 pub mod Flat
+pub mod Placing
 pub mod Finding
 pub mod Adding
 pub mod Answers

@@ -12,7 +12,8 @@ use lib.Seq.{drop-cons, set-at, getD-at, ext-getD}
 use borrow.Author.Tests.{ltb-true, ltb-false}
 use Rattle.words.specs.Word.{wordwise}
 
-which : (k n : ℕ) → k < suc n → (k < n) ⊎ (k ≡ n)
+-- Below a number, or that number.
+pub which : (k n : ℕ) → k < suc n → (k < n) ⊎ (k ≡ n)
 which k n h = go (ltb k n) refl
   where
     go : (b : Bool) → ltb k n ≡ b → (k < n) ⊎ (k ≡ n)

@@ -5,8 +5,7 @@ use mathlib.Core.Bool.{Bool, true, cond, not, _&&_}
 use mathlib.Core.List.{List, [], _∷_, _++_}
 use mathlib.Core.Option.{Option, some, none}
 use Prim.Native.Nat.{ℕ, zero, suc, _+_, _-_, _*_, _/_, _^_}
-use lib.Bits.{bitAnd}
-use lib.Dec.{ltb, eqb}
+use lib.Dec.{ltb}
 use Rattle.rule.specs.Func.{Fn}
 use Rattle.rule.specs.Point.{Pt, bit, odd, pointNumber}
 use Rattle.rule.specs.Cube.{cubeFn}
@@ -51,7 +50,8 @@ wordwise op [] ys = []
 wordwise op (x ∷ xs) [] = []
 wordwise op (x ∷ xs) (y ∷ ys) = op x y ∷ wordwise op xs ys
 
--- Whether no word of a list meets a word.
-unfoldable pub noneMeets : ℕ → List ℕ → Bool
-noneMeets w [] = true
-noneMeets w (x ∷ xs) = eqb (bitAnd x w) 0 && noneMeets w xs
+-- The number and 1 of a point in a table of 6 + d columns, by the place of its word and its number and 1 there: the first column
+-- tells the half of the table.
+unfoldable pub placed : ℕ → ℕ → ℕ → ℕ
+placed zero i r = r
+placed (suc d) i r = cond (ltb i (2 ^ d)) (2 * placed d i r - 1) (2 * placed d (i - 2 ^ d) r)

@@ -2,10 +2,9 @@
 // column k. The first column splits a table in the middle; where the columns before the last six are all dashes, every word of the
 // cube's table is the same, and one loop over the words does.
 ghost use mathlib.Core.Path.{_≡_};
-ghost use mathlib.Core.Bool.{_&&_};
-ghost use Prim.Native.Nat.{_≤_};
-ghost use Rattle.words.specs.Word.{plain, noneMeets};
-ghost use Rattle.words.specs.Contract.{Sized, SizedBoth, SizedWord, SizedBothWord, FirstIn, Added};
+ghost use Prim.Native.Nat.{_-_, _≤_};
+ghost use Rattle.words.specs.Word.{plain, placed};
+ghost use Rattle.words.specs.Contract.{Sized, SizedBoth, SizedMany, SizedWord, SizedBothWord, FoundInWord, FirstUnder, FirstIn, Added};
 use crate::table;
 use crate::word;
 
@@ -21,15 +20,35 @@ fn all_dashes(columns: u16, ones: u16, zeros: u16) -> bool
     (ones & before) == 0 && (zeros & before) == 0
 }
 
-// Whether one loop over the words shows that the cube covers no point of the table.
-fn bare(s: &[u64], columns: u16, ones: u16, zeros: u16, w: u64) -> bool
-    requires { ⌜ columns ≤ 16 ⌝ }
-    ensures { λ r. ⌜ r ≡ (plain columns ones zeros && noneMeets w (now (s .entry))) ⌝ }
+// The number and 1 of a point of a table, by the place of its word and its number and 1 there. The last of the columns before the
+// last six is the place's lowest digit; the first column is its highest, and the number's lowest.
+fn number_by_place(columns: u16, place: u32, found: u32) -> u32
+    requires { ⌜ FoundInWord columns place found ⌝ }
+    ensures { λ r. ⌜ r ≡ placed (columns - 6) place found ⌝ }
 {
-    if !all_dashes(columns, ones, zeros) {
-        return false;
+    let mut k = columns;
+    let mut i = place;
+    let mut r = found;
+    while 6 < k {
+        r = 2 * r - 1 + i % 2;
+        i = i / 2;
+        k -= 1;
     }
-    table::none_meets(s, w)
+    r
+}
+
+// The smallest point of a table with one word against each of its words: 0 where there is none, else its number and 1. One loop
+// over the words stops at the first that is met, and its place gives the number.
+fn first_under(s: &[u64], columns: u16, w: u64) -> u32
+    requires { ⌜ SizedMany columns (now s) ⌝ }
+    ensures { λ r. ⌜ FirstUnder columns w (now (s .entry)) r ⌝ }
+{
+    let i = table::first_met(s, w);
+    if i == s.len() {
+        return 0;
+    }
+    let r = word::first_bit(w & s[i], 6);
+    number_by_place(columns, i as u32, r)
 }
 
 // The search below, given the word of the cube's last six columns.
@@ -40,8 +59,8 @@ fn first_from(s: &[u64], columns: u16, ones: u16, zeros: u16, w: u64) -> u32
     if columns <= 6 {
         return word::first_bit(w & s[0], columns);
     }
-    if bare(s, columns, ones, zeros, w) {
-        return 0;
+    if all_dashes(columns, ones, zeros) {
+        return first_under(s, columns, w);
     }
     let h = s.len() / 2;
     let low = &s[..h];

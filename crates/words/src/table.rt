@@ -3,8 +3,8 @@ ghost use mathlib.Core.Path.{_≡_};
 ghost use lib.Bits.{bitAnd, bitOr};
 ghost use lib.ListN.{length, replicate};
 ghost use Rattle.rule.specs.Func.{constant};
-ghost use Rattle.words.specs.Word.{words, size, wordwise, noneMeets};
-ghost use Rattle.words.specs.Contract.{Lessened, Outside};
+ghost use Rattle.words.specs.Word.{words, size, wordwise};
+ghost use Rattle.words.specs.Contract.{Lessened, Outside, FirstMet};
 use crate::word;
 
 // Makes a table that of a constant.
@@ -62,18 +62,18 @@ pub fn outside(s: &mut [u64], columns: u16)
     }
 }
 
-// Whether no word of a table meets a word.
-pub fn none_meets(s: &[u64], w: u64) -> bool
-    ensures { λ r. ⌜ r ≡ noneMeets w (now (s .entry)) ⌝ }
+// The place of the first word of a table that meets a word: the table's length where none does.
+pub fn first_met(s: &[u64], w: u64) -> usize
+    ensures { λ r. ⌜ FirstMet w (now (s .entry)) r ⌝ }
 {
     let mut i = 0;
     while i < s.len() {
         if (s[i] & w) != 0 {
-            return false;
+            return i;
         }
         i += 1;
     }
-    true
+    i
 }
 
 // Adds a word to each word of what is covered, and what of it was covered before to what is covered twice.

@@ -4,6 +4,7 @@ use native.Mathlib.Omega.{arith}
 use Rattle.list.proofs.Listing.{ListPromise}
 use Rattle.graph.proofs.Roots.{input-sound}
 use Rattle.list.proofs.Entering.{input-refused, generate-asks, nodes-lack, list-lacks, list-delivered}
+use Rattle.list.proofs.Remembering.{memos-none}
 use borrow.Author.Needs.{needs}
 use Rattle.list.proofs.entry.generate.Statement.{statement}
 use Rattle.list.proofs.entry.generate.Tie as tie
@@ -26,13 +27,19 @@ returns c = input-refused _ _ _ _ _ _ _ _ _ (c .before .input-refusal .ensures) 
 clear-room-requires : tie.Need-clear-room-requires
 clear-room-requires c κs = search needs
 
+slice-aggregate-generate-at : tie.Need-slice-aggregate-generate-at
+slice-aggregate-generate-at c = search needs
+
+slice-aggregate-generate-at-2 : tie.Need-slice-aggregate-generate-at-2
+slice-aggregate-generate-at-2 c = search needs
+
 generate-at-requires : tie.Need-generate-at-requires
-generate-at-requires c κs = generate-asks _ _ _ _ _ _ _ _ (sym (c .before .before .before .before .before .before .before .before .before .input-refusal .ensures) ∙ c .before .before .before .before .before .before .before .before .if1 .left)
+generate-at-requires c κs = (generate-asks _ _ _ _ _ _ _ _ (sym (c .before .before .before .before .before .before .before .before .before .before .before .input-refusal .ensures) ∙ c .before .before .before .before .before .before .before .before .before .before .if1 .left), memos-none)
 
 give-back-requires : tie.Need-give-back-requires
 give-back-requires c κs =
-    let s = input-sound _ _ _ _ _ _ _ _ (sym (c .before .before .before .before .before .before .before .before .before .before .before .before .before .before .before .before .before .before .before .before .before .input-refusal .ensures) ∙ c .before .before .before .before .before .before .before .before .before .before .before .before .before .before .before .before .before .before .before .before .if1 .left) .sized in
-    (omega (arith, s .count, c .before .before .before .before .before .before .before .before .before .before .before .generate-at .kept .0), omega (arith, s .count, s .low, c .before .before .before .before .before .before .before .before .before .before .before .generate-at .kept .1 .0), omega (arith, s .count, s .high, c .before .before .before .before .before .before .before .before .before .before .before .generate-at .kept .1 .1 .0))
+    let s = input-sound _ _ _ _ _ _ _ _ (sym (c .before .before .before .before .before .before .before .before .before .before .before .before .before .before .before .before .before .before .before .before .before .before .before .before .before .input-refusal .ensures) ∙ c .before .before .before .before .before .before .before .before .before .before .before .before .before .before .before .before .before .before .before .before .before .before .before .before .if1 .left) .sized in
+    (omega (arith, s .count, c .before .before .before .before .before .before .before .before .before .before .before .before .before .generate-at .kept .0), omega (arith, s .count, s .low, c .before .before .before .before .before .before .before .before .before .before .before .before .before .generate-at .kept .1 .0), omega (arith, s .count, s .high, c .before .before .before .before .before .before .before .before .before .before .before .before .before .generate-at .kept .1 .1 .0))
 
 enum-known-listed : tie.Need-enum-known-listed
 enum-known-listed c = search needs
@@ -57,7 +64,7 @@ same-length-7 c = search needs
 
 returns-2 : tie.Need-returns-2
 unfolding ListPromise
-returns-2 c = nodes-lack _ _ _ _ _ _ _ _ _ (c .before .before .before .before .before .before .before .before .before .before .before .before .before .before .before .before .before .before .before .before .before .before .before .before .before .before .before .before .before .before .before .before .before .before .input-refusal .ensures) (c .before .before .before .before .before .before .before .before .before .before .before .before .before .before .before .before .before .before .before .before .before .before .before .before .before .before .before .before .before .before .before .before .before .if1 .left) _ _ _ _ _ (c .before .before .before .before .before .before .before .before .before .before .before .before .before .before .before .before .before .before .before .before .before .before .before .before .generate-at .result) (c .before .before .before .before .before .before .before .before .before .before .before .before .before .before .before .before .before .before .before .before .before .before .before .before .generate-at .ensures) (c .before .before .before .before .before .before .before .before .before .before .before .before .before .before .before .before .before .before .before .before .before .before .before .before .before .before .before .before .before .before .before .clear-room .ensures) _ _ _ (c .before .before .before .before .before .before .before .before .before .before .before .before .give-back .ensures .0) (c .before .before .before .before .before .before .before .before .before .before .before .before .give-back .ensures .1) (c .before .before .before .before .before .before .before .before .before .before .before .before .give-back .ensures .2) (c .before .before .before .before .enum-told .given .1) _ (c .before .before .clear-room2 .ensures)
+returns-2 c = nodes-lack _ _ _ _ _ _ _ _ _ (c .before .before .before .before .before .before .before .before .before .before .before .before .before .before .before .before .before .before .before .before .before .before .before .before .before .before .before .before .before .before .before .before .before .before .before .before .before .before .input-refusal .ensures) (c .before .before .before .before .before .before .before .before .before .before .before .before .before .before .before .before .before .before .before .before .before .before .before .before .before .before .before .before .before .before .before .before .before .before .before .before .before .if1 .left) _ _ _ _ _ (c .before .before .before .before .before .before .before .before .before .before .before .before .before .before .before .before .before .before .before .before .before .before .before .before .before .before .generate-at .result) (c .before .before .before .before .before .before .before .before .before .before .before .before .before .before .before .before .before .before .before .before .before .before .before .before .before .before .generate-at .ensures .0) (c .before .before .before .before .before .before .before .before .before .before .before .before .before .before .before .before .before .before .before .before .before .before .before .before .before .before .before .before .before .before .before .before .before .before .before .clear-room .ensures) _ _ _ (c .before .before .before .before .before .before .before .before .before .before .before .before .give-back .ensures .0) (c .before .before .before .before .before .before .before .before .before .before .before .before .give-back .ensures .1) (c .before .before .before .before .before .before .before .before .before .before .before .before .give-back .ensures .2) (c .before .before .before .before .enum-told .given .1) _ (c .before .before .clear-room2 .ensures)
 
 clear-room-requires-3 : tie.Need-clear-room-requires-3
 clear-room-requires-3 c κs = search needs
@@ -76,7 +83,7 @@ same-length-11 c = search needs
 
 returns-3 : tie.Need-returns-3
 unfolding ListPromise
-returns-3 c = list-lacks _ _ _ _ _ _ _ _ _ (c .before .before .before .before .before .before .before .before .before .before .before .before .before .before .before .before .before .before .before .before .before .before .before .before .before .before .before .before .before .before .before .before .before .before .before .before .input-refusal .ensures) (c .before .before .before .before .before .before .before .before .before .before .before .before .before .before .before .before .before .before .before .before .before .before .before .before .before .before .before .before .before .before .before .before .before .before .before .if1 .left) _ _ _ _ _ (c .before .before .before .before .before .before .before .before .before .before .before .before .before .before .before .before .before .before .before .before .before .before .before .before .before .before .generate-at .result) (c .before .before .before .before .before .before .before .before .before .before .before .before .before .before .before .before .before .before .before .before .before .before .before .before .before .before .generate-at .ensures) (c .before .before .before .before .before .before .before .before .before .before .before .before .before .before .before .before .before .before .before .before .before .before .before .before .before .before .before .before .before .before .before .before .before .clear-room .ensures) _ _ _ (c .before .before .before .before .before .before .before .before .before .before .before .before .before .before .give-back .ensures .0) (c .before .before .before .before .before .before .before .before .before .before .before .before .before .before .give-back .ensures .1) (c .before .before .before .before .before .before .before .before .before .before .before .before .before .before .give-back .ensures .2) _ _ _ (c .before .before .before .before .before .before .listed .given .1) (c .before .before .before .before .if2 .taken) _ (c .before .before .clear-room3 .ensures)
+returns-3 c = list-lacks _ _ _ _ _ _ _ _ _ (c .before .before .before .before .before .before .before .before .before .before .before .before .before .before .before .before .before .before .before .before .before .before .before .before .before .before .before .before .before .before .before .before .before .before .before .before .before .before .before .before .input-refusal .ensures) (c .before .before .before .before .before .before .before .before .before .before .before .before .before .before .before .before .before .before .before .before .before .before .before .before .before .before .before .before .before .before .before .before .before .before .before .before .before .before .before .if1 .left) _ _ _ _ _ (c .before .before .before .before .before .before .before .before .before .before .before .before .before .before .before .before .before .before .before .before .before .before .before .before .before .before .before .before .generate-at .result) (c .before .before .before .before .before .before .before .before .before .before .before .before .before .before .before .before .before .before .before .before .before .before .before .before .before .before .before .before .generate-at .ensures .0) (c .before .before .before .before .before .before .before .before .before .before .before .before .before .before .before .before .before .before .before .before .before .before .before .before .before .before .before .before .before .before .before .before .before .before .before .before .before .clear-room .ensures) _ _ _ (c .before .before .before .before .before .before .before .before .before .before .before .before .before .before .give-back .ensures .0) (c .before .before .before .before .before .before .before .before .before .before .before .before .before .before .give-back .ensures .1) (c .before .before .before .before .before .before .before .before .before .before .before .before .before .before .give-back .ensures .2) _ _ _ (c .before .before .before .before .before .before .listed .given .1) (c .before .before .before .before .if2 .taken) _ (c .before .before .clear-room3 .ensures)
 
 same-length-12 : tie.Need-same-length-12
 same-length-12 c = search needs
@@ -92,7 +99,7 @@ same-length-15 c = search needs
 
 returns-4 : tie.Need-returns-4
 unfolding ListPromise
-returns-4 c = list-delivered _ _ _ _ _ _ _ _ _ (c .before .before .before .before .before .before .before .before .before .before .before .before .before .before .before .before .before .before .before .before .before .before .before .before .before .before .before .before .before .before .before .before .input-refusal .ensures) (c .before .before .before .before .before .before .before .before .before .before .before .before .before .before .before .before .before .before .before .before .before .before .before .before .before .before .before .before .before .before .before .if1 .left) _ _ _ _ _ (c .before .before .before .before .before .before .before .before .before .before .before .before .before .before .before .before .before .before .before .before .before .before .generate-at .result) (c .before .before .before .before .before .before .before .before .before .before .before .before .before .before .before .before .before .before .before .before .before .before .generate-at .ensures) (c .before .before .before .before .before .before .before .before .before .before .before .before .before .before .before .before .before .before .before .before .before .before .before .before .before .before .before .before .before .clear-room .ensures) _ _ _ (c .before .before .before .before .before .before .before .before .before .before .give-back .ensures .0) (c .before .before .before .before .before .before .before .before .before .before .give-back .ensures .1) (c .before .before .before .before .before .before .before .before .before .before .give-back .ensures .2) _ _ _ (c .before .before .listed .given .1) (c .if2 .left)
+returns-4 c = list-delivered _ _ _ _ _ _ _ _ _ (c .before .before .before .before .before .before .before .before .before .before .before .before .before .before .before .before .before .before .before .before .before .before .before .before .before .before .before .before .before .before .before .before .before .before .before .before .input-refusal .ensures) (c .before .before .before .before .before .before .before .before .before .before .before .before .before .before .before .before .before .before .before .before .before .before .before .before .before .before .before .before .before .before .before .before .before .before .before .if1 .left) _ _ _ _ _ (c .before .before .before .before .before .before .before .before .before .before .before .before .before .before .before .before .before .before .before .before .before .before .before .before .generate-at .result) (c .before .before .before .before .before .before .before .before .before .before .before .before .before .before .before .before .before .before .before .before .before .before .before .before .generate-at .ensures .0) (c .before .before .before .before .before .before .before .before .before .before .before .before .before .before .before .before .before .before .before .before .before .before .before .before .before .before .before .before .before .before .before .before .before .clear-room .ensures) _ _ _ (c .before .before .before .before .before .before .before .before .before .before .give-back .ensures .0) (c .before .before .before .before .before .before .before .before .before .before .give-back .ensures .1) (c .before .before .before .before .before .before .before .before .before .before .give-back .ensures .2) _ _ _ (c .before .before .listed .given .1) (c .if2 .left)
 
 pub generate-spec : {M : Type 1} → statement M
 generate-spec =
@@ -104,6 +111,8 @@ generate-spec =
     same-length-3
     returns
     clear-room-requires
+    slice-aggregate-generate-at
+    slice-aggregate-generate-at-2
     generate-at-requires
     give-back-requires
     enum-known-listed

@@ -1,5 +1,5 @@
--- `words::cube::first_from` meets its contract: one word, nothing in any word, or the halves of the slice by the sign of the
--- first column, the half for 0 first. The measure is the columns left.
+-- `words::cube::first_from` meets its contract: one word, one word against each word, or the halves of the slice by the sign of
+-- the first column, the half for 0 first. The measure is the columns left.
 use mathlib.Core.Path.{sym}
 use Prim.Native.Nat.{ℕ, _-_, _/_, _<_, _≤_}
 use native.Mathlib.Omega.{arith}
@@ -8,11 +8,12 @@ use lib.Seq.{length-take-le}
 use borrow.Fn.Kinds.{In}
 use borrow.Fn.PlainCycle.{Measures, is, falls, and}
 use Rattle.words.proofs.Tables.{size-few}
-use Rattle.words.proofs.Finding.{one-word, nothing-met, search-low, search-high, search-one, search-found, search-zero, search-dash, most-found}
+use Rattle.words.proofs.Finding.{one-word, all-dashes-found, search-low, search-high, search-one, search-found, search-zero, search-dash, most-found}
 use Rattle.words.proofs.cube.first_from.Reads as first-from
 use Rattle.words.proofs.cube.first_from.Kinds as kinds
 use Rattle.words.proofs.cube.+first_from.Lts-first_from as lts
-use Rattle.words.proofs.cube.bare.Reads as bare
+use Rattle.words.proofs.cube.all_dashes.Reads as all-dashes
+use Rattle.words.proofs.cube.first_under.Reads as first-under
 use Rattle.words.proofs.word.first_bit.Reads as first-bit
 use Rattle.words.proofs.cube.+first_from.{statement}
 use Rattle.words.proofs.cube.+first_from.Tie.{close}
@@ -27,7 +28,7 @@ abbrev below : ℕ → In 1 kinds.ps
 below t = and 1 kinds.ps (falls 1 kinds.ps _<_ μ t) first-from.Pre
 
 abbrev claims : ℕ → lts.Claims
-claims t = (first-bit.Asked, first-bit.Learnt, bare.Asked, bare.Learnt, below t, first-from.Post)
+claims t = (first-bit.Asked, first-bit.Learnt, all-dashes.Asked, all-dashes.Learnt, first-under.Asked, first-under.Learnt, below t, first-from.Post)
 
 shared-slice-read-first-bit : (t : ℕ) → lts.Need-shared-slice-read-first-bit (claims t) (given t) first-from.Post
 shared-slice-read-first-bit t c =
@@ -42,13 +43,19 @@ returns t c =
     let s = c .before .before .before .before in
     one-word (s .args .columns) (s .args .ones) (s .args .zeros) (s .args .w) (s .args .s .now) (c .first-bit .result) (s .pre .1) (c .before .before .if1 .taken) (c .first-bit .ensures)
 
-bare-requires : (t : ℕ) → lts.Need-bare-requires (claims t) (given t) first-from.Post
-bare-requires t c κs = c .before .before .pre .1 .columns
+all-dashes-requires : (t : ℕ) → lts.Need-all-dashes-requires (claims t) (given t) first-from.Post
+all-dashes-requires t c κs = c .before .before .pre .1 .columns
+
+first-under-requires : (t : ℕ) → lts.Need-first-under-requires (claims t) (given t) first-from.Post
+first-under-requires t c κs =
+    let s = c .before .before .before .before in
+    record { more = omega arith; columns = s .pre .1 .columns; long = s .pre .1 .long }
 
 returns-2 : (t : ℕ) → lts.Need-returns-2 (claims t) (given t) first-from.Post
 returns-2 t c =
-    let s = c .before .before .before .before in
-    nothing-met (s .args .columns) (s .args .ones) (s .args .zeros) (s .args .w) (s .args .s .now) (c .before .bare .result) (s .pre .1) (c .before .bare .ensures) (c .if2 .taken)
+    let s = c .before .before .before .before .before in
+    let d = c .before .before .all-dashes in
+    all-dashes-found (s .args .columns) (s .args .ones) (s .args .zeros) (s .args .w) (s .args .s .now) (d .result) (c .first-under .result) (s .pre .1) (d .ensures) (c .before .if2 .taken) (c .first-under .ensures)
 
 slice-aggregate-low : (t : ℕ) → lts.Need-slice-aggregate-low (claims t) (given t) first-from.Post
 slice-aggregate-low t c =
@@ -92,7 +99,9 @@ sub-first-from-2 t c = omega arith
 first-from-requires-2 : (t : ℕ) → lts.Need-first-from-requires-2 (claims t) (given t) first-from.Post
 first-from-requires-2 t c κs =
     let s = c .before .before .before .before .before .before .before in
-    (omega arith, search-low (s .args .columns) (s .args .ones) (s .args .zeros) (s .args .w) (s .args .s .now) (c .before .before .before .before .before .if1 .left) (s .pre .1))
+    let l = search-low (s .args .columns) (s .args .ones) (s .args .zeros) (s .args .w) (s .args .s .now) (c .before .before .before .before .before .if1 .left) (s .pre .1) in
+    let h = search-high (s .args .columns) (s .args .ones) (s .args .zeros) (s .args .w) (s .args .s .now) (c .before .before .before .before .before .if1 .left) (s .pre .1) in
+    (omega arith, search (l, h))
 
 mul-result-2 : (t : ℕ) → lts.Need-mul-result-2 (claims t) (given t) first-from.Post
 mul-result-2 t c =
@@ -121,7 +130,9 @@ sub-first-from-3 t c = omega arith
 first-from-requires-3 : (t : ℕ) → lts.Need-first-from-requires-3 (claims t) (given t) first-from.Post
 first-from-requires-3 t c κs =
     let s = c .before .before .before .before .before .before .before .before .before .before in
-    (omega arith, search-high (s .args .columns) (s .args .ones) (s .args .zeros) (s .args .w) (s .args .s .now) (c .before .before .before .before .before .before .before .before .if1 .left) (s .pre .1))
+    let l = search-low (s .args .columns) (s .args .ones) (s .args .zeros) (s .args .w) (s .args .s .now) (c .before .before .before .before .before .before .before .before .if1 .left) (s .pre .1) in
+    let h = search-high (s .args .columns) (s .args .ones) (s .args .zeros) (s .args .w) (s .args .s .now) (c .before .before .before .before .before .before .before .before .if1 .left) (s .pre .1) in
+    (omega arith, search (l, h))
 
 mul-result-3 : (t : ℕ) → lts.Need-mul-result-3 (claims t) (given t) first-from.Post
 mul-result-3 t c =
@@ -143,7 +154,8 @@ pub +first-from-spec : {M : Type 1} → statement M
     (shared-slice-read-first-bit t)
     (first-bit-requires t)
     (returns t)
-    (bare-requires t)
+    (all-dashes-requires t)
+    (first-under-requires t)
     (returns-2 t)
     (slice-aggregate-low t)
     (mul-high t)
