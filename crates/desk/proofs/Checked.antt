@@ -1,27 +1,27 @@
 -- The second program: the ways out of `say_verdict`, and what it says of the rows that were read.
 use mathlib.Core.Path.{_≡_, refl, sym, ap, ap₂, _∙_}
-use mathlib.Core.Bool.{Bool, true, false, cond, not, _&&_}
+use mathlib.Core.Bool.{Bool, true, false, cond, _&&_}
 use mathlib.Core.List.{List, [], _∷_, _++_}
-use Prim.Native.Nat.{ℕ, zero, suc, _+_, _-_, _≤_, _<_}
+use Prim.Native.Nat.{ℕ, zero, suc, _+_, _-_, _≤_}
 use native.Mathlib.Omega.{arith}
 use lib.Dec.{eqb, leb}
-use lib.ListN.{length, take, getD, replicate, length-append, length-drop}
+use lib.ListN.{length, take, replicate, length-append, length-drop}
 use lib.Seq.{take-at, length-take-le}
 use borrow.Author.Tests.{leb-true, eq-eqb}
 use Rattle.rule.specs.Func.{Fn}
-use Rattle.rule.specs.Number.{wellFormed}
+use Rattle.rule.specs.Number.{firstMalformed}
 use Rattle.rule.specs.Refusal.{Condition, firstBroken, columnsOver, textOver, listOver, textFault, listLacks, cubeMalformed}
 use Rattle.rule.specs.Rows.{Kind, Row, lowerOf, upperOf}
 use Rattle.rule.specs.Verdict.{Verdict, accept, off, missing, literal, cube, verdictNumbers}
 use Rattle.rule.proofs.Delivered.{AllFormed}
-use Rattle.rule.proofs.Search.{no-first}
+use Rattle.rule.proofs.Malformed.{none-malformed}
 use Rattle.graph.specs.Table.{tableOf, fnOf}
 use Rattle.graph.proofs.Refusals.{kept-next, none-broken, first-kept, others-kept}
 use Rattle.graph.proofs.Roots.{past-input}
 use Rattle.line.specs.Bytes.{lines}
 use Rattle.line.specs.Meaning.{bytesToEnd, afterEnd}
-use Rattle.checker.specs.Judging.{judgedAs, placeNumber}
-use Rattle.checker.specs.Entry.{malformedAt, malformedPlace, lower, upper, refusal, answerFor}
+use Rattle.checker.specs.Judging.{judgedAs}
+use Rattle.checker.specs.Entry.{lower, upper, refusal, answerFor}
 use Rattle.checker.specs.declared.judged.Judged.{Judged}
 use Rattle.text.specs.Outcome.{outcome}
 use Rattle.text.specs.Room.{padded}
@@ -59,27 +59,15 @@ verdict-line n (missing p) = refl
 verdict-line n (literal c k) = refl
 verdict-line n (cube c) = refl
 
--- A list of well-formed cubes has no malformed one.
-formed-at : (n : ℕ) (xs : List ℕ) → AllFormed n xs → (i : ℕ) → i < length xs → wellFormed n (getD xs i 0) ≡ true
-unfolding AllFormed
-formed-at n [] f i h = let z : ⊥ = omega arith in absurd z
-formed-at n (x ∷ xs) f zero h = f .0
-formed-at n (x ∷ xs) f (suc i) h = formed-at n xs (f .1) i (omega arith)
-
-none-malformed : (n : ℕ) (xs : List ℕ) → AllFormed n xs → malformedPlace n xs ≡ 0
-unfolding malformedPlace malformedAt placeNumber
-none-malformed n xs f =
-    ap placeNumber (no-first (malformedAt n xs) (length xs) (λ i h. ap not (formed-at n xs f i h)))
-
 -- Nothing is refused of a list of well-formed cubes, and the answer is the verdict on it.
 module _ {n c : ℕ} {v l h : List ℕ} {a b : ℕ} {list answer : List ℕ} (r : Ready n c v l h a b list answer)
     (xs : List ℕ) (few : length xs ≤ 16384) (formed : AllFormed n xs) where
   none-refused : refusal n c v l h a b xs ≡ 0
   unfolding refusal
   none-refused =
-      let formedKept : Condition = record { number = cubeMalformed; kept = eqb (malformedPlace n xs) 0 } in
+      let formedKept : Condition = record { number = cubeMalformed; kept = eqb (firstMalformed n xs) 0 } in
       past-input n c v l h a b (length xs) (formedKept ∷ []) (input-kept r (length xs) few) ∙
-      kept-next formedKept [] (eq-eqb (malformedPlace n xs) 0 (none-malformed n xs formed)) ∙ none-broken
+      kept-next formedKept [] (eq-eqb (firstMalformed n xs) 0 (none-malformed n xs formed)) ∙ none-broken
 
   pub verdict-told : judgedText n (answerFor n c v l h a b xs (refusal n c v l h a b xs))
       ≡ verdictText n (verdictNumbers n (fnOf (tableOf v l h) 0 n a) (fnOf (tableOf v l h) 0 n b) xs)

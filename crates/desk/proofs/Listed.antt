@@ -11,12 +11,13 @@ use lib.ListN.{length, take, replicate, length-map, length-append}
 use lib.Seq.{take-at, length-take-le}
 use borrow.Author.Tests.{leb-true, ltb-true, ltb-false}
 use Rattle.rule.specs.Func.{Fn}
-use Rattle.rule.specs.Number.{cubeNumber}
+use Rattle.rule.specs.Number.{cubeNumber, firstMalformed}
 use Rattle.rule.specs.Nodes.{need}
 use Rattle.rule.specs.Refusal.{Condition, firstBroken, nodesLack, listLacks}
 use Rattle.rule.specs.Rule.{listOf, listNumbers}
 use Rattle.rule.proofs.Bools.{which}
-use Rattle.rule.proofs.Delivered.{AllFormed, list-formed}
+use Rattle.rule.proofs.Delivered.{list-formed}
+use Rattle.rule.proofs.Malformed.{none-malformed}
 use Rattle.graph.specs.Table.{tableOf, functions}
 use Rattle.graph.proofs.Refusals.{first-kept, others-kept}
 use Rattle.graph.proofs.Roots.{past-input}
@@ -26,7 +27,7 @@ use Rattle.list.specs.Entry.{lower, upper, theList, roomConditions, refusal, an
 use Rattle.list.specs.declared.entry.Generated.{Generated}
 use Rattle.list.specs.declared.entry.Generated.the-variants as made
 use Rattle.listmemo.proofs.Writing.{list-bound}
-use Rattle.text.specs.Writing.{listText, malformedFrom, roomBy, roomWritten, Wrote}
+use Rattle.text.specs.Writing.{listText, roomBy, roomWritten, Wrote}
 use Rattle.text.specs.declared.writing.Written.{Written}
 use Rattle.text.specs.declared.writing.Written.the-variants as written
 use Rattle.text.proofs.Written.{length-text, all-kept, fitting}
@@ -58,12 +59,6 @@ text-fits n xs h k =
     let w : n + 3 ≤ 19 = omega arith in
     let p : length xs * (n + 3) ≤ 1536 * 19 = mul-le-mul k w in
     omega (arith, length-text n xs, two-digits n (omega arith), four-digits (length xs) (omega arith))
-
--- A list of well-formed cubes has no malformed one.
-none-malformed : (n k : ℕ) (xs : List ℕ) → AllFormed n xs → malformedFrom n k xs ≡ 0
-unfolding malformedFrom AllFormed
-none-malformed n k [] f = refl
-none-malformed n k (x ∷ xs) f = rw (f .0) (none-malformed n (k + 1) xs (f .1))
 
 -- The rule's list has at most 3 to the 16th cubes.
 pub list-small : (n : ℕ) (L U : Fn n) → n ≤ 16 → length (listNumbers n L U) ≤ 43046721
@@ -168,9 +163,9 @@ module _ {n c : ℕ} {v l h : List ℕ} {a b : ℕ} {list answer : List ℕ} (r 
         fit : length (listText n xs) ≤ length answer
         fit = omega (arith, text-fits n xs (r .roots .sound .columns) fits, r .bytes)
 
-        formed : malformedFrom n 1 xs ≡ 0
+        formed : firstMalformed n xs ≡ 0
         unfolding theList
-        formed = none-malformed n 1 xs (list-formed n L U (r .roots .sound .columns))
+        formed = none-malformed n xs (list-formed n L U (r .roots .sound .columns))
 
         written-is : w ≡ written.Done (length (listText n xs))
         written-is =

@@ -1,15 +1,14 @@
 -- Generator and checker by their contracts alone: where the generator's contract allows Done, the checker's contract allows
 -- nothing but Accept for the cubes delivered, on the table that was lent and on the table that is left.
 use mathlib.Core.Path.{_≡_, refl, sym, ap, ap₂, _∙_, subst⁻¹}
-use mathlib.Core.Bool.{true}
-use mathlib.Core.List.{List, [], _∷_}
-use Prim.Native.Nat.{ℕ, zero, suc, _<_, _≤_}
+use mathlib.Core.List.{List}
+use Prim.Native.Nat.{ℕ, _≤_}
 use native.Mathlib.Omega.{arith}
-use lib.ListN.{length, getD, take}
-use Rattle.rule.specs.Number.{wellFormed}
+use lib.ListN.{length, take}
 use Rattle.rule.specs.Refusal.{firstBroken}
 use Rattle.rule.specs.Verdict.{accept, verdictNumbers}
-use Rattle.rule.proofs.Delivered.{AllFormed, list-formed}
+use Rattle.rule.proofs.Delivered.{list-formed}
+use Rattle.rule.proofs.Malformed.{formed-at}
 use Rattle.graph.specs.Table.{tableOf, fnOf}
 use Rattle.graph.specs.Entry.{inputConditions, cleared}
 use Rattle.graph.proofs.Roots.{input-sound, shorter-good, cleared-good, lower-cleared, upper-cleared}
@@ -23,13 +22,6 @@ use Rattle.list.specs.Entry.{lower, upper, theList, refusal, changesNoth
 use Rattle.list.specs.declared.entry.Generated.{Generated}
 use Rattle.list.specs.declared.entry.Generated.the-variants.{Done}
 use Rattle.list.proofs.Delivered.{done-refuses-none, done-good, done-stands, done-fits, delivered-accepted}
-
--- A list of well-formed cubes, place by place.
-formed-at : (m : ℕ) (xs : List ℕ) → AllFormed m xs → (i : ℕ) → i < length xs → wellFormed m (getD xs i 0) ≡ true
-unfolding AllFormed
-formed-at m [] w i h = let z : ⊥ = omega arith in absurd z
-formed-at m (x ∷ xs) w zero h = w .0
-formed-at m (x ∷ xs) w (suc i) h = formed-at m xs (w .1) i (omega arith)
 
 module _ (n : ℕ) (c : ℕ) (v : List ℕ) (l : List ℕ) (h : List ℕ) (a : ℕ) (b : ℕ) (room : List ℕ) (v′ : List ℕ) (l′ : List ℕ) (h′ : List ℕ) (room′ : List ℕ) (r : Generated) (size : ℕ)
     (g : Generates n c v l h a b room v′ l′ h′ room′ r) (e : r ≡ Done size) where

@@ -17,6 +17,7 @@ pub mod Search
 pub mod Faults
 pub mod Verdict
 pub mod Delivered
+pub mod Malformed
 pub mod Trees
 pub mod Sets
 pub mod Parts

@@ -1,5 +1,5 @@
 -- The 32-bit number of a cube: bit k says that column k must be 1, bit 16 + k that it must be 0.
-use mathlib.Core.Bool.{Bool, true, false, not, _&&_}
+use mathlib.Core.Bool.{Bool, true, false, cond, not, _&&_}
 use mathlib.Core.List.{List, [], _∷_}
 use Prim.Native.Nat.{ℕ, zero, suc, _+_, _*_, _/_, _%_}
 use lib.Count.{ones}
@@ -53,6 +53,15 @@ apart (suc m) o z = not (odd o && odd z) && apart m (o / 2) (z / 2)
 -- Whether a number is a well-formed cube of m columns.
 unfoldable pub wellFormed : ℕ → ℕ → Bool
 wellFormed m x = apart m (x % 65536) (x / 65536)
+
+-- The position of the first malformed cube of a list, its first cube being k; 0 without one.
+unfoldable pub malformedFrom : ℕ → ℕ → List ℕ → ℕ
+malformedFrom m k [] = 0
+malformedFrom m k (x ∷ xs) = cond (wellFormed m x) (malformedFrom m (k + 1) xs) k
+
+-- The same from 1.
+unfoldable pub firstMalformed : ℕ → List ℕ → ℕ
+firstMalformed m xs = malformedFrom m 1 xs
 
 -- Whether the columns of a point agree with the bits of a cube number: those that must be 1 are, those that must be 0 are.
 unfoldable pub agree : ℕ → ℕ → ℕ → ℕ → Bool

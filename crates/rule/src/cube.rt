@@ -1,9 +1,9 @@
-// A single cube by its number: its literals, whether it is well formed, whether it covers a point; and the literals of
-// a list. Every function takes every number.
+// A single cube by its number: its literals, whether it is well formed, whether it covers a point; and the literals and
+// the first malformed cube of a list. Every function takes every number.
 ghost use mathlib.Core.Path.{_≡_};
 ghost use Prim.Native.Nat.{_+_, _-_, _^_, min};
 ghost use lib.Count.{ones};
-ghost use Rattle.rule.specs.Number.{wellFormed, numberCovers, literalSum};
+ghost use Rattle.rule.specs.Number.{wellFormed, firstMalformed, numberCovers, literalSum};
 
 // The number of literals of a cube: the count of its set bits.
 pub fn literals(cube: u32) -> u32
@@ -51,6 +51,20 @@ pub fn well_formed(columns: u16, cube: u32) -> bool
     }
     let beyond = 1u32 << columns;
     ones < beyond && zeros < beyond
+}
+
+// The position of the first malformed cube of a list, from 1; 0 without one.
+pub fn first_malformed(columns: u16, list: &[u32]) -> usize
+    ensures { λ r. ⌜ r ≡ firstMalformed columns (now (list .entry)) ⌝ }
+{
+    let mut place = 0;
+    while place < list.len() {
+        if !well_formed(columns, list[place]) {
+            return place + 1;
+        }
+        place += 1;
+    }
+    0
 }
 
 // Whether a cube covers a point: every column that must be 1 is, and none that must be 0.

@@ -1,7 +1,7 @@
 -- What is written reads back as the same rows in the same order. The text's lines are those that were put; each means what it was put
 -- for; so the reader goes on to the end, row by row.
-use mathlib.Core.Path.{_≡_, refl, sym, ap, ap₂, _∙_, subst}
-use mathlib.Core.Bool.{Bool, true, false, cond, not, _&&_, _||_}
+use mathlib.Core.Path.{_≡_, refl, sym, ap, ap₂, _∙_}
+use mathlib.Core.Bool.{Bool, true, not, _&&_, _||_}
 use mathlib.Core.List.{List, [], _∷_, _++_, map, append-assoc, append-nil}
 use mathlib.Core.Option.{Option, some, none}
 use Prim.Native.Nat.{ℕ, zero, suc, _+_, _-_, _<_, _≤_}
@@ -10,10 +10,12 @@ use lib.Dec.{eqb, leb, lit<}
 use lib.ListN.{length, length-map}
 use borrow.Author.Tests.{le-leb, eq-eqb, ne-eqb}
 use Rattle.rule.specs.Cube.{Sign, sign0, sign1, dash, Cube}
-use Rattle.rule.specs.Number.{signs, cubeNumber, wellFormed}
+use Rattle.rule.specs.Number.{signs, cubeNumber, wellFormed, firstMalformed}
 use Rattle.rule.specs.Rows.{Row, fd, out1}
 use Rattle.rule.specs.Marked.{sameList}
 use Rattle.rule.proofs.Number.{length-signs, cubeNumber-signs}
+use Rattle.rule.proofs.Delivered.{AllFormed}
+use Rattle.rule.proofs.Malformed.{all-formed}
 use Rattle.rule.proofs.Bools.{clash, which}
 use Rattle.line.specs.Bytes.{bytes, is, isNewline, isHash, isBlank, split, lines, fields, until, putByte, words, filled, keep}
 use Rattle.line.specs.Decimal.{all, number, decimal}
@@ -24,7 +26,7 @@ use Rattle.line.specs.declared.meaning.Line.{Line}
 use Rattle.line.specs.declared.meaning.Line.the-variants as Line
 use Rattle.line.proofs.Back.{none-of, all-append, Solid, split-piece, pair-newline, pair-fields, solid-decimal, number-decimal}
 use Rattle.text.specs.Outcome.{Outcome, good, start, withColumns, withOutput, withCount, withRow, allowsColumns, allowsOut, first, legal, step, complete, finish, putRow, addRow, follow, run, outcome}
-use Rattle.text.specs.Writing.{signByte, rowText, rowsText, joined, textParts, listText, malformedFrom}
+use Rattle.text.specs.Writing.{signByte, rowText, rowsText, joined, textParts, listText}
 use Rattle.rule.specs.Refusal.{firstBroken}
 use Rattle.text.specs.Room.{padded}
 use Rattle.text.specs.Candidate.{isGood, cubesOf, readConditions, readBy, readAnswer, listBy, listRead}
@@ -183,17 +185,6 @@ unfolding withRow
 ready-next n s j r =
     record { columns = r .columns; output = r .output; kind = r .kind; counted = r .counted; count = omega (arith, r .count) }
 
--- No cube is malformed.
-formed-first : (n k x : ℕ) (xs : List ℕ) → malformedFrom n (suc k) (x ∷ xs) ≡ 0
-    → (wellFormed n x ≡ true) × (malformedFrom n (suc k + 1) xs ≡ 0)
-unfolding malformedFrom
-formed-first n k x xs e = go (wellFormed n x) refl e
-  where
-    go : (q : Bool) → wellFormed n x ≡ q → cond q (malformedFrom n (suc k + 1) xs) (suc k) ≡ 0
-        → (wellFormed n x ≡ true) × (malformedFrom n (suc k + 1) xs ≡ 0)
-    go true f g = (f, g)
-    go false f g = let z : ⊥ = omega arith in absurd z
-
 -- The row of a cube in a candidate.
 unfoldable pub rowOn : ℕ → ℕ → Row
 rowOn n x = record { cube = signs n x; out = out1 }
@@ -202,18 +193,15 @@ row-added : (n x : ℕ) (rs : List Row) → addRow (Line.Row n x One) (good n fd
 unfolding addRow putRow rowOf outOf rowOn
 row-added n x rs = refl
 
-rows-run : (n : ℕ) (xs : List ℕ) (s : State) (i k : ℕ) → 1 ≤ n → n ≤ 16 → malformedFrom n (suc i) xs ≡ 0 → Ready n s (length xs)
+rows-run : (n : ℕ) (xs : List ℕ) (s : State) (k : ℕ) → 1 ≤ n → n ≤ 16 → AllFormed n xs → Ready n s (length xs)
     → run n s k (map (λ x. rowBytes (signs n x)) xs ++ ((46 ∷ 101 ∷ []) ∷ [])) ≡ good n fd (map (rowOn n) xs)
-unfolding run follow step
-rows-run n [] s i k l h f r =
+unfolding run follow step AllFormed
+rows-run n [] s k l h f r =
     ap (λ t. follow (step n s t) k (finish s k) (λ u. run n u (k + 1) []) t) means-end ∙ ready-ends n s k l r
-rows-run n (x ∷ xs) s i k l h f r =
-    let g = formed-first n i x xs f in
-    let e : suc i + 1 ≡ suc (i + 1) = omega arith in
-    let f′ : malformedFrom n (suc (i + 1)) xs ≡ 0 = subst (λ j. malformedFrom n j xs ≡ 0) e (g .1) in
+rows-run n (x ∷ xs) s k l h f r =
     run-on n s (withRow s) k (rowBytes (signs n x)) (map (λ y. rowBytes (signs n y)) xs ++ ((46 ∷ 101 ∷ []) ∷ [])) (Line.Row n x One)
-    (means-row n x l h (g .0)) (ready-row n x s (length xs) l r) ∙
-    ap (addRow (Line.Row n x One)) (rows-run n xs (withRow s) (i + 1) (k + 1) l h f′ (ready-next n s (length xs) r)) ∙ added
+    (means-row n x l h (f .0)) (ready-row n x s (length xs) l r) ∙
+    ap (addRow (Line.Row n x One)) (rows-run n xs (withRow s) (k + 1) l h (f .1) (ready-next n s (length xs) r)) ∙ added
   where
     added : addRow (Line.Row n x One) (good n fd (map (rowOn n) xs)) ≡ good n fd (rowOn n x ∷ map (rowOn n) xs)
     added = row-added n x (map (rowOn n) xs)
@@ -236,7 +224,7 @@ unfolding start withColumns withOutput withCount
 then-ready n m = record { columns = refl; output = refl; kind = refl; counted = refl; count = omega arith }
 
 -- The theorem: a written list is a good candidate, and its rows are the cubes in order.
-module _ (n : ℕ) (xs : List ℕ) (l : 1 ≤ n) (h : n ≤ 16) (f : malformedFrom n 1 xs ≡ 0) where
+module _ (n : ℕ) (xs : List ℕ) (l : 1 ≤ n) (h : n ≤ 16) (f : firstMalformed n xs ≡ 0) where
   pub written-reads : length xs < 100000 → outcome n (listText n xs) ≡ good n fd (map (rowOn n) xs)
   unfolding outcome addRow
   written-reads b =
@@ -250,26 +238,22 @@ module _ (n : ℕ) (xs : List ℕ) (l : 1 ≤ n) (h : n ≤ 16) (f : malformedFr
       run-on n start s₁ 1 (46 ∷ 105 ∷ 32 ∷ decimal n) (output ∷ counted ∷ rows) (Line.Columns n) (means-columns n l h) (first-columns n l) ∙
       run-on n s₁ s₂ 2 output (counted ∷ rows) Line.Output means-output (then-output n) ∙
       run-on n s₂ (withCount s₂ m) 3 counted rows (Line.Count m) (means-count m b) (then-count n m) ∙
-      rows-run n xs (withCount s₂ m) 0 4 l h f (then-ready n m)
+      rows-run n xs (withCount s₂ m) 4 l h (all-formed n xs f) (then-ready n m)
 
-cubes-back : (n : ℕ) (xs : List ℕ) (i : ℕ) → malformedFrom n (suc i) xs ≡ 0
-    → map (λ r. cubeNumber (r .cube)) (map (rowOn n) xs) ≡ xs
-unfolding rowOn
-cubes-back n [] i f = refl
-cubes-back n (x ∷ xs) i f =
-    let g = formed-first n i x xs f in
-    let e : suc i + 1 ≡ suc (i + 1) = omega arith in
-    ap₂ (λ y ys. y ∷ ys) (cubeNumber-signs n x (g .0)) (cubes-back n xs (i + 1) (subst (λ j. malformedFrom n j xs ≡ 0) e (g .1)))
+cubes-back : (n : ℕ) (xs : List ℕ) → AllFormed n xs → map (λ r. cubeNumber (r .cube)) (map (rowOn n) xs) ≡ xs
+unfolding rowOn AllFormed
+cubes-back n [] f = refl
+cubes-back n (x ∷ xs) f = ap₂ (λ y ys. y ∷ ys) (cubeNumber-signs n x (f .0)) (cubes-back n xs (f .1))
 
 -- The same at the entries: a list that was written, within 32,768 bytes, is read into a room that suffices as it was.
-module _ (n : ℕ) (xs : List ℕ) (l : 1 ≤ n) (h : n ≤ 16) (few : length xs ≤ 16384) (f : malformedFrom n 1 xs ≡ 0)
+module _ (n : ℕ) (xs : List ℕ) (l : 1 ≤ n) (h : n ≤ 16) (few : length xs ≤ 16384) (f : firstMalformed n xs ≡ 0)
     (short : length (listText n xs) ≤ 32768) (room : List ℕ) (list : length room ≤ 16384) (enough : length xs ≤ length room) where
   read-whole : outcome n (listText n xs) ≡ good n fd (map (rowOn n) xs)
   read-whole = written-reads n xs l h f (omega arith)
 
   same-cubes : cubesOf (outcome n (listText n xs)) ≡ xs
   unfolding cubesOf
-  same-cubes = ap cubesOf read-whole ∙ cubes-back n xs 0 f
+  same-cubes = ap cubesOf read-whole ∙ cubes-back n xs (all-formed n xs f)
 
   nothing-broken : firstBroken (readConditions n (listText n xs) (length room)) ≡ 0
   unfolding readConditions firstBroken isGood

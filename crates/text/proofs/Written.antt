@@ -11,7 +11,7 @@ use lib.ListN.{length, getD, drop, set, length-append, length-map, drop-of-lengt
 use lib.Seq.{sets, drop-cons}
 use borrow.Author.Tests.{le-leb, lt-leb, eq-eqb, ne-eqb, leb-true}
 use Rattle.rule.specs.Point.{odd}
-use Rattle.rule.specs.Number.{signOf, signsFrom, signs, wellFormed}
+use Rattle.rule.specs.Number.{signOf, signsFrom, signs, firstMalformed}
 use Rattle.rule.specs.Refusal.{firstBroken}
 use Rattle.rule.proofs.Number.{length-signs}
 use Rattle.rule.proofs.Bools.{and-right}
@@ -19,7 +19,7 @@ use Rattle.line.specs.Bytes.{bytes}
 use Rattle.line.specs.Decimal.{decimal, digit}
 use Rattle.line.proofs.Decimal.{decimal-one, decimal-more}
 use Rattle.text.specs.Room.{cleared, padded, Put}
-use Rattle.text.specs.Writing.{signByte, rowText, rowsText, joined, textParts, listText, malformedFrom, writeConditions, writeReturns, answerBy, writeAnswer, numbersOf, numbersFor, roomBy, roomWritten, Wrote, Writable}
+use Rattle.text.specs.Writing.{signByte, rowText, rowsText, joined, textParts, listText, writeConditions, writeReturns, answerBy, writeAnswer, numbersOf, numbersFor, roomBy, roomWritten, Wrote, Writable}
 use Rattle.text.specs.declared.writing.Written.{Written}
 use Rattle.text.specs.declared.writing.Written.the-variants.{Done, Refused}
 use Rattle.text.proofs.Room.{put-then, sets-one, cleared-padded}
@@ -137,22 +137,6 @@ length-text n xs =
 pub few-bytes : (n : ℕ) (xs : List ℕ) → n ≤ 16 → length xs ≤ 16384 → length xs * (n + 3) ≤ 311296
 few-bytes n xs h k = let w : n + 3 ≤ 19 = omega arith in let p : length xs * (n + 3) ≤ 16384 * 19 = mul-le-mul k w in p
 
--- The position of the first malformed cube: found, or looked for further on.
-pub malformed-here : (n k : ℕ) (xs : List ℕ) (j : ℕ) → j < length xs → wellFormed n (getD xs j 0) ≡ false
-    → malformedFrom n k (drop j xs) ≡ k
-unfolding malformedFrom
-malformed-here n k xs j h e = ap (malformedFrom n k) (drop-cons xs j 0 h) ∙ rw e
-
-pub malformed-later : (n k : ℕ) (xs : List ℕ) (j : ℕ) → j < length xs → wellFormed n (getD xs j 0) ≡ true
-    → malformedFrom n k (drop j xs) ≡ malformedFrom n (k + 1) (drop (j + 1) xs)
-unfolding malformedFrom
-malformed-later n k xs j h e =
-    ap (malformedFrom n k) (drop-cons xs j 0 h) ∙ rw e (ap (λ i. malformedFrom n (k + 1) (drop i xs)) (sym (add-one j)))
-
-pub malformed-nowhere : (n k : ℕ) (xs : List ℕ) (j : ℕ) → length xs ≤ j → malformedFrom n k (drop j xs) ≡ 0
-unfolding malformedFrom
-malformed-nowhere n k xs j h = ap (malformedFrom n k) (drop-of-length-le xs h)
-
 -- The answer, test by test.
 module _ (n : ℕ) (xs : List ℕ) (room : ℕ) where
   pub no-columns : n < 1 → Refused 1 0 ≡ writeAnswer n xs room
@@ -167,27 +151,27 @@ module _ (n : ℕ) (xs : List ℕ) (room : ℕ) where
   unfolding writeAnswer writeConditions firstBroken answerBy writeReturns
   over-list l h k = rw (le-leb 1 n l) (rw (le-leb n 16 h) (rw (lt-leb (length xs) 16384 k)))
 
-  pub has-malformed : 1 ≤ n → n ≤ 16 → length xs ≤ 16384 → (malformedFrom n 1 xs ≡ 0 → ⊥)
-      → Refused 9 (malformedFrom n 1 xs) ≡ writeAnswer n xs room
+  pub has-malformed : 1 ≤ n → n ≤ 16 → length xs ≤ 16384 → (firstMalformed n xs ≡ 0 → ⊥)
+      → Refused 9 (firstMalformed n xs) ≡ writeAnswer n xs room
   unfolding writeAnswer writeConditions firstBroken answerBy writeReturns
   has-malformed l h k m =
-      rw (le-leb 1 n l) (rw (le-leb n 16 h) (rw (le-leb (length xs) 16384 k) (rw (ne-eqb (malformedFrom n 1 xs) 0 m))))
+      rw (le-leb 1 n l) (rw (le-leb n 16 h) (rw (le-leb (length xs) 16384 k) (rw (ne-eqb (firstMalformed n xs) 0 m))))
 
-  pub too-short : 1 ≤ n → n ≤ 16 → length xs ≤ 16384 → malformedFrom n 1 xs ≡ 0 → room < length (listText n xs)
+  pub too-short : 1 ≤ n → n ≤ 16 → length xs ≤ 16384 → firstMalformed n xs ≡ 0 → room < length (listText n xs)
       → Refused 13 (length (listText n xs)) ≡ writeAnswer n xs room
   unfolding writeAnswer writeConditions firstBroken answerBy writeReturns
   too-short l h k m s =
-      rw (le-leb 1 n l) (rw (le-leb n 16 h) (rw (le-leb (length xs) 16384 k) (rw (eq-eqb (malformedFrom n 1 xs) 0 m)
+      rw (le-leb 1 n l) (rw (le-leb n 16 h) (rw (le-leb (length xs) 16384 k) (rw (eq-eqb (firstMalformed n xs) 0 m)
       (rw (lt-leb (length (listText n xs)) room s)))))
 
-  pub all-kept : 1 ≤ n → n ≤ 16 → length xs ≤ 16384 → malformedFrom n 1 xs ≡ 0 → length (listText n xs) ≤ room
+  pub all-kept : 1 ≤ n → n ≤ 16 → length xs ≤ 16384 → firstMalformed n xs ≡ 0 → length (listText n xs) ≤ room
       → firstBroken (writeConditions n xs room) ≡ 0
   unfolding writeConditions firstBroken
   all-kept l h k m s =
-      rw (le-leb 1 n l) (rw (le-leb n 16 h) (rw (le-leb (length xs) 16384 k) (rw (eq-eqb (malformedFrom n 1 xs) 0 m)
+      rw (le-leb 1 n l) (rw (le-leb n 16 h) (rw (le-leb (length xs) 16384 k) (rw (eq-eqb (firstMalformed n xs) 0 m)
       (rw (le-leb (length (listText n xs)) room s)))))
 
-  pub fitting : 1 ≤ n → n ≤ 16 → length xs ≤ 16384 → malformedFrom n 1 xs ≡ 0 → length (listText n xs) ≤ room
+  pub fitting : 1 ≤ n → n ≤ 16 → length xs ≤ 16384 → firstMalformed n xs ≡ 0 → length (listText n xs) ≤ room
       → Done (length (listText n xs)) ≡ writeAnswer n xs room
   unfolding writeAnswer answerBy
   fitting l h k m s = sym (ap (λ r. answerBy r n xs) (all-kept l h k m s))
@@ -216,7 +200,7 @@ module _ (n : ℕ) (xs : List ℕ) (room : List ℕ) where
   none-broken e =
       let a = kept-first (leb 1 n && leb n 16) _ 0 e in
       let b = kept-first (leb (length xs) 16384) _ 5 (a .1) in
-      let d = kept-first (eqb (malformedFrom n 1 xs) 0) _ 8 (b .1) in
+      let d = kept-first (eqb (firstMalformed n xs) 0) _ 8 (b .1) in
       let g = kept-first (leb (length (listText n xs)) (length room)) _ 12 (d .1) in
       record {
         columns = leb-true n 16 (and-right (leb 1 n) (leb n 16) (a .0));

@@ -6,7 +6,7 @@ use Prim.Native.Nat.{ℕ, zero, suc, _+_, _≤_}
 use lib.Dec.{eqb, leb}
 use lib.ListN.{length}
 use Rattle.rule.specs.Cube.{Sign, sign0, sign1, dash, Cube}
-use Rattle.rule.specs.Number.{signs, wellFormed}
+use Rattle.rule.specs.Number.{signs, firstMalformed}
 use Rattle.rule.specs.Refusal.{Condition, firstBroken, columnsOver, listOver, cubeMalformed, textLacks}
 use Rattle.line.specs.Bytes.{bytes}
 use Rattle.line.specs.Decimal.{decimal}
@@ -42,22 +42,17 @@ textParts n xs =
 unfoldable pub listText : ℕ → List ℕ → List ℕ
 listText n xs = joined (textParts n xs)
 
--- The position of the first malformed cube, the first of the list being k, or 0 without one.
-unfoldable pub malformedFrom : ℕ → ℕ → List ℕ → ℕ
-malformedFrom n k [] = 0
-malformedFrom n k (x ∷ xs) = cond (wellFormed n x) (malformedFrom n (k + 1) xs) k
-
 -- What writing asks: 1, 1 to 16 columns; 6, at most 16,384 cubes; 9, none malformed; 13, the text fits the room.
 unfoldable pub writeConditions : ℕ → List ℕ → ℕ → List Condition
 writeConditions n xs room =
     record { number = columnsOver; kept = leb 1 n && leb n 16 } ∷
     record { number = listOver; kept = leb (length xs) 16384 } ∷
-    record { number = cubeMalformed; kept = eqb (malformedFrom n 1 xs) 0 } ∷
+    record { number = cubeMalformed; kept = eqb (firstMalformed n xs) 0 } ∷
     record { number = textLacks; kept = leb (length (listText n xs)) room } ∷ []
 
 -- What a refusal returns: 9 the position of the first malformed cube, from 1; 13 the bytes needed; the others 0.
 unfoldable pub writeReturns : ℕ → List ℕ → ℕ → ℕ
-writeReturns n xs r = cond (eqb r cubeMalformed) (malformedFrom n 1 xs) (cond (eqb r textLacks) (length (listText n xs)) 0)
+writeReturns n xs r = cond (eqb r cubeMalformed) (firstMalformed n xs) (cond (eqb r textLacks) (length (listText n xs)) 0)
 
 -- The answer: the first broken condition with what it returns, else the bytes written.
 unfoldable pub answerBy : ℕ → ℕ → List ℕ → Written

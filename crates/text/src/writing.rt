@@ -6,7 +6,7 @@ ghost use lib.ListN.{length};
 ghost use Rattle.rule.specs.Point.{odd};
 ghost use Rattle.rule.specs.Number.{signs, signsFrom, signOf};
 ghost use Rattle.line.specs.Decimal.{decimal};
-ghost use Rattle.text.specs.Writing.{signByte, rowText, rowsText, listText, malformedFrom, writeAnswer, Wrote, Writable};
+ghost use Rattle.text.specs.Writing.{signByte, rowText, rowsText, listText, writeAnswer, Wrote, Writable};
 ghost use Rattle.text.specs.Room.{cleared, padded, Put};
 use rule::cube;
 use rule::refusal;
@@ -142,20 +142,6 @@ fn bytes_needed(columns: u16, list: &[u32]) -> usize
     16 + digit_count(wide) + digit_count(list.len()) + list.len() * (wide + 3)
 }
 
-// The position of the first malformed cube, from 1, or 0.
-fn first_malformed(columns: u16, list: &[u32]) -> usize
-    ensures { λ r. ⌜ r ≡ malformedFrom columns 1 (now (list .entry)) ⌝ }
-{
-    let mut i = 0;
-    while i < list.len() {
-        if !cube::well_formed(columns, list[i]) {
-            return i + 1;
-        }
-        i += 1;
-    }
-    0
-}
-
 // The answer: the first refusal that applies, else the bytes to be written.
 fn answer(columns: u16, list: &[u32], room: usize) -> Written
     ensures { λ r. ⌜ r ≡ writeAnswer columns (now (list .entry)) room ⌝ }
@@ -169,7 +155,7 @@ fn answer(columns: u16, list: &[u32], room: usize) -> Written
     if 16384 < list.len() {
         return Written::Refused(refusal::LIST_OVER, 0);
     }
-    let malformed = first_malformed(columns, list);
+    let malformed = cube::first_malformed(columns, list);
     if malformed != 0 {
         return Written::Refused(refusal::CUBE_MALFORMED, malformed);
     }

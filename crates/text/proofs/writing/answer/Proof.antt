@@ -3,7 +3,7 @@ use mathlib.Core.Path.{_≡_, sym, ap, _∙_, subst}
 use lib.ListN.{length}
 use Prim.Native.Nat.{_<_, _≤_}
 use borrow.Author.Needs.{needs}
-use Rattle.text.specs.Writing.{malformedFrom, listText, writeAnswer}
+use Rattle.text.specs.Writing.{listText, writeAnswer}
 use Rattle.text.specs.declared.writing.Written.the-variants.{Done, Refused}
 use Rattle.text.proofs.Written.{no-columns, over-columns, over-list, has-malformed, too-short, fitting}
 use borrow.Author.Needs.{needs}
