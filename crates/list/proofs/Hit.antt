@@ -1,6 +1,6 @@
 -- A list found before: nothing is added to the table, since everything under the two roots is there; the copy is the list of
 -- the rule with the literals of this path.
-use mathlib.Core.Path.{_≡_, refl, sym, ap, _∙_, subst, subst⁻¹}
+use mathlib.Core.Path.{_≡_, refl, sym, ap, _∙_, subst}
 use mathlib.Core.List.{List}
 use Prim.Native.Nat.{ℕ, _+_, _-_, _*_, _^_, _<_, _≤_}
 use native.Mathlib.Omega.{arith}
@@ -9,7 +9,6 @@ use lib.Seq.{sets}
 use Rattle.rule.specs.Cube.{Cube}
 use Rattle.rule.specs.Rule.{listOf}
 use Rattle.graph.specs.Table.{tableOf, fnOf}
-use Rattle.graph.specs.Run.{Run}
 use Rattle.graph.proofs.Building.{agree-itself}
 use Rattle.listmemo.specs.Copy.{numbersUnder, Copyable}
 use Rattle.listmemo.specs.Past.{Written, Stands, Keeps, PastOf}
@@ -17,7 +16,7 @@ use Rattle.listmemo.specs.declared.past.Past.{Past}
 use Rattle.listmemo.specs.declared.past.Past.the-variants.{Is}
 use Rattle.listmemo.proofs.Writing.{under-length}
 use Rattle.listmemo.proofs.Copying.{stands-copyable}
-use Rattle.list.specs.Generating.{Listable, ListedDone, ListedOf, Memos}
+use Rattle.list.specs.Generating.{Listable, ListedOf, Memos}
 use Rattle.list.specs.declared.generator.Listed.the-variants as listed
 use Rattle.list.proofs.Remembering.{memos-written}
 

@@ -19,9 +19,6 @@ use Rattle.steps.specs.Step.{namedKept, KeptDone, namedLeft, RestDone, RestOf}
 use Rattle.listmemo.specs.Copy.{numbersUnder}
 use Rattle.list.specs.Generating.{namedA, namedB, namedRest, namedC, Listable, ListsDone, ListedDone, ListedFull, ListedOf}
 use Rattle.steps.specs.declared.run.Both.{Both}
-use Rattle.steps.specs.declared.run.Both.the-variants as both
-use Rattle.steps.specs.declared.step.Kept.the-variants as kept
-use Rattle.list.specs.declared.generator.Lists.the-variants as lists
 use Rattle.list.specs.declared.generator.Listed.{Listed}
 use Rattle.list.specs.declared.generator.Listed.the-variants as listed
 use Rattle.graph.proofs.Runs.{run-then, run-present, names-stay, names-there, short-more}

@@ -1,11 +1,11 @@
 -- The memos beside the generator: they stay right through every call of a step and through what is written, and a list that
 -- is done may be kept.
-use mathlib.Core.Path.{_≡_, refl, sym, ap, _∙_, subst}
+use mathlib.Core.Path.{_≡_, refl, ap, _∙_, subst}
 use mathlib.Core.List.{List, [], _∷_}
 use Prim.Native.Nat.{ℕ, suc, _+_, _-_, _^_, _≤_}
 use native.Mathlib.Nat.{pow-le-pow-right, one-le-pow}
 use native.Mathlib.Omega.{arith}
-use lib.ListN.{length, set}
+use lib.ListN.{length, set, replicate}
 use lib.Seq.{sets}
 use Rattle.rule.specs.Func.{Fn}
 use Rattle.rule.specs.Nodes.{Tree}
@@ -37,7 +37,7 @@ use Rattle.list.specs.declared.generator.Listed.{Listed}
 use Rattle.list.specs.declared.generator.Listed.the-variants as listed
 
 -- Memos of zeros, before the first list.
-pub memos-none : {n : ℕ} {c : ℕ} {v : List ℕ} {l : List ℕ} {h : List ℕ} {room : List ℕ} {at : ℕ} → Memos n c v l h room at (lib.ListN.replicate {A = ℕ} 1024 0) (lib.ListN.replicate {A = ℕ} 1536 0)
+pub memos-none : {n : ℕ} {c : ℕ} {v : List ℕ} {l : List ℕ} {h : List ℕ} {room : List ℕ} {at : ℕ} → Memos n c v l h room at (replicate {A = ℕ} 1024 0) (replicate {A = ℕ} 1536 0)
 memos-none = record { operations = holds-none; lists = keeps-none }
 
 module _ {n : ℕ} {c : ℕ} {v : List ℕ} {l : List ℕ} {h : List ℕ} {room : List ℕ} {at : ℕ} {memo : List ℕ} {past : List ℕ} (s : Sound n c v l h) (q : Memos n c v l h room at memo past) where
