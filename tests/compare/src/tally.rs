@@ -13,11 +13,6 @@ const CHECK: &str = "check";
 /// And what a text is counted as, however often it is read.
 const TEXT: &str = "text";
 
-/// So many calls of a tally are all made on a row of records too, and of those after them one in so
-/// many, which shares no factor with the turns that a test takes: a row's call copies 4,096 records.
-const ALL_ON_ROWS: usize = 1_000;
-const ONE_ON_A_ROW_IN: usize = 11;
-
 /// A name for each number that is returned.
 pub const NUMBERS: [&str; 14] = [
     "done",
@@ -129,11 +124,10 @@ impl Tally {
         *self.counts.entry((kind, operation)).or_default() += 1;
     }
 
-    /// One more call was made; where it is a row's turn, it is made on a row too.
+    /// One more call was made; where its table can be a row of records, on a row too.
     fn made(&mut self, holds_on_row: impl FnOnce() -> bool) {
-        let due = self.calls < ALL_ON_ROWS || self.calls % ONE_ON_A_ROW_IN == 0;
         self.calls += 1;
-        self.on_rows += usize::from(due && holds_on_row());
+        self.on_rows += usize::from(holds_on_row());
     }
 
     pub fn calls(&self) -> usize {
