@@ -51,33 +51,38 @@ pub fn instructions(
     within: &str,
     input: Option<&Path>,
 ) -> Option<u64> {
-    let within = format!("--toggle-collect={within}");
-    callgrind(&[&within], program, words, input)
-}
-
-/// Those of its whole run, from its start to its end.
-pub fn whole_instructions(program: &Path, input: &Path) -> Option<u64> {
-    callgrind(&[], program, &[], Some(input))
-}
-
-fn callgrind(
-    options: &[&str],
-    program: &Path,
-    words: &[&str],
-    input: Option<&Path>,
-) -> Option<u64> {
-    if !installed("valgrind") {
-        return None;
-    }
-    let input = input.map_or(Stdio::null(), |file| File::open(file).unwrap().into());
-    let output = Command::new("valgrind")
-        .args(["--tool=callgrind", "--callgrind-out-file=/dev/null"])
-        .args(options)
+    let mut valgrind = callgrind()?;
+    valgrind
+        .arg(format!("--toggle-collect={within}"))
         .arg(program)
-        .args(words)
-        .stdin(input)
-        .output()
-        .unwrap();
+        .args(words);
+    collected(valgrind, input)
+}
+
+/// The C library zeroes memory by vectors: of its other way valgrind counts every byte as an instruction.
+const BY_VECTORS: (&str, &str) = (
+    "GLIBC_TUNABLES",
+    "glibc.cpu.x86_rep_stosb_threshold=100000000",
+);
+
+/// The instructions of a program's whole run with this input, from its start to its end.
+pub fn whole_instructions(program: &Path, input: &Path) -> Option<u64> {
+    let mut valgrind = callgrind()?;
+    valgrind.env(BY_VECTORS.0, BY_VECTORS.1).arg(program);
+    collected(valgrind, Some(input))
+}
+
+/// The command that counts, where valgrind is installed.
+fn callgrind() -> Option<Command> {
+    let mut valgrind = installed("valgrind").then(|| Command::new("valgrind"))?;
+    valgrind.args(["--tool=callgrind", "--callgrind-out-file=/dev/null"]);
+    Some(valgrind)
+}
+
+/// What it counts with an input.
+fn collected(mut valgrind: Command, input: Option<&Path>) -> Option<u64> {
+    let input = input.map_or(Stdio::null(), |file| File::open(file).unwrap().into());
+    let output = valgrind.stdin(input).output().unwrap();
     let told = String::from_utf8_lossy(&output.stderr);
     let line = told.lines().find_map(|line| line.split_once("Collected :"));
     line.and_then(|(_, count)| count.trim().parse().ok())
