@@ -60,6 +60,7 @@ pub record PutPick (s : Sign) (cs : List Cube) (c : Cube) (left : List Cube) : T
 
 pub picks_put : (s : Sign) (cs : List Cube) (c : Cube) (left : List Cube) → Picks (put s cs) c left → PutPick s cs c left
 unfolding put
+picks_put s [] c left k = elim k [ ]
 picks_put s (d ∷ cs) c left here = record { cube = d; others = cs; pick = here; is = refl; rest-is = refl }
 picks_put s (d ∷ cs) c left (there {left = l} k) = later (picks_put s cs c l k)
   where
@@ -77,6 +78,8 @@ no_pick = elim [ ]
 
 pub only_pick : {d : Cube} {c : Cube} {left : List Cube} → Picks (d ∷ []) c left → c ≡ d
 only_pick here = refl
+only_pick {d = d} {c = c} (there {left = left} k) = elim k [ ]
 
 pub only_left : {d : Cube} {c : Cube} {left : List Cube} → Picks (d ∷ []) c left → left ≡ []
 only_left here = refl
+only_left {d = d} {c = c} (there {left = left} k) = elim k [ ]

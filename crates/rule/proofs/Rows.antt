@@ -47,6 +47,7 @@ module _ (m : ℕ) (p : Pt) where
 
   row-covers : (t : Kind) (w : Part) (r : Row) (rows : List Row) → Memᴰ r rows → same_part (part t r.out) w ≡ true → covers m r.cube p ≡ true → covers_any m (cubes_of t w rows) p ≡ true
   unfolding cubes_of
+  row-covers t w r [] k s h = elim k [ ]
   row-covers t w r (x ∷ rows) (Memᴰ.head e) s h =
       kept-covers (same_part (part t x.out) w) x.cube (cubes_of t w rows) (rw e at s) (rw e at h)
   row-covers t w r (x ∷ rows) (Memᴰ.tail k) s h =

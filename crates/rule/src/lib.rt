@@ -1,4 +1,6 @@
 // The leaves on a single cube, and the constant table of the three-valued rules.
+#![tactic(auto)]
+
 pub mod cube;
 pub mod refusal;
 pub mod three;

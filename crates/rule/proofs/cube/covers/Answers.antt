@@ -7,8 +7,7 @@ use lib.Dec.{eqb}
 use borrow.Author.Tests.{eq-eqb, ne_eqb}
 use Rattle.rule.specs.Number.{number_covers}
 use Rattle.rule.proofs.Masks.{number_covers_masks, second_decides, first_decides}
-use Rattle.rule.proofs.cube.covers.Statement.{statement}
-use Rattle.rule.proofs.cube.covers.Tie as tie
+use Rattle.rule.proofs.cube.covers.Goals as goal
 
 module _ (cube point : ℕ) (fits : cube < 2 ^ 32) where
   zeros_decide : bit_and (cube % 65536) point ≡ cube % 65536 → eqb (bit_and (cube / 65536) point) 0 ≡ number_covers cube point
@@ -22,11 +21,8 @@ module _ (cube point : ℕ) (fits : cube < 2 ^ 32) where
       first_decides (eqb (bit_and (cube % 65536) point) (cube % 65536)) (eqb (bit_and (cube / 65536) point) 0)
       (number_covers_masks cube point fits) (ne_eqb (bit_and (cube % 65536) point) (cube % 65536) lost)
 
-returns : tie.Need-returns
-returns c = zeros_decide c.before.args.cube c.before.args.point (omega arith) c.if1.true
+pub returns-then-ones-point : goal.returns-then-ones-point
+returns-then-ones-point c = zeros_decide c.args.cube c.args.point (omega arith) c.if-ones-point.true
 
-returns-2 : tie.Need-returns-2
-returns-2 c = ones_decide c.before.args.cube c.before.args.point (omega arith) c.if1.false
-
-pub covers-spec : {M : Type 1} → statement M
-covers-spec = tie.close (tie.spec returns returns-2)
+pub returns-else-ones-point : goal.returns-else-ones-point
+returns-else-ones-point c = ones_decide c.args.cube c.args.point (omega arith) c.if-ones-point.false

@@ -7,12 +7,10 @@ use native.Mathlib.Omega.{arith}
 use lib.Bits.{bit_and}
 use lib.Dec.{eqb, ltb}
 use lib.Pow.{pow_mono}
-use borrow.Author.Rules.{rules}
 use borrow.Author.Tests.{eq-eqb, ne_eqb, lt-ltb, le-ltb}
 use Rattle.rule.specs.Number.{well_formed}
 use Rattle.rule.proofs.Masks.{well_formed_masks, second_decides, first_decides, shifted_one}
-use Rattle.rule.proofs.cube.well_formed.Statement.{statement}
-use Rattle.rule.proofs.cube.well_formed.Tie as tie
+use Rattle.rule.proofs.cube.well_formed.Goals as goal
 
 module _ (m x : ℕ) where
   abbrev ones : ℕ
@@ -58,26 +56,17 @@ module _ (m x : ℕ) where
         first_decides (ltb ones (2 ^ m)) (ltb zeros (2 ^ m)) (sym (bounds_decide apart))
         (le-ltb ones (2 ^ m) (omega (arith, beyond-is)))
 
-returns : tie.Need-returns
-returns c = shared_bit c.before.args.columns c.before.args.cube c.if1.true
+pub returns-then-ones-zeros-ne0 : goal.returns-then-ones-zeros-ne0
+returns-then-ones-zeros-ne0 c = shared_bit c.args.columns c.args.cube c.if-ones-zeros-ne0.true
 
-returns-2 : tie.Need-returns-2
-returns-2 c =
-    let s = c.before.before in
-    all-columns s.args.columns s.args.cube c.before.if1.false c.if2.true (omega arith)
+pub returns-then-columns-ge16 : goal.returns-then-columns-ge16
+returns-then-columns-ge16 c =
+    all-columns c.args.columns c.args.cube c.if-ones-zeros-ne0.false c.if-columns-ge16.true (omega arith)
 
-shl-beyond : tie.Need-overflow-shl-beyond
-shl-beyond c = search rules
+pub returns-then-ones-beyond : goal.returns-then-ones-beyond
+returns-then-ones-beyond c =
+    zeros_decide c.args.columns c.args.cube c.if-ones-zeros-ne0.false c.if-columns-ge16.false c.if-ones-beyond.true
 
-returns-3 : tie.Need-returns-3
-returns-3 c =
-    let s = c.before.before.before in
-    zeros_decide s.args.columns s.args.cube c.before.before.if1.false c.before.if2.false c.if3.true
-
-returns-4 : tie.Need-returns-4
-returns-4 c =
-    let s = c.before.before.before in
-    ones_decide s.args.columns s.args.cube c.before.before.if1.false c.before.if2.false c.if3.false
-
-pub well-formed-spec : {M : Type 1} → statement M
-well-formed-spec = tie.close (tie.spec returns returns-2 shl-beyond returns-3 returns-4)
+pub returns-else-ones-beyond : goal.returns-else-ones-beyond
+returns-else-ones-beyond c =
+    ones_decide c.args.columns c.args.cube c.if-ones-zeros-ne0.false c.if-columns-ge16.false c.if-ones-beyond.false
