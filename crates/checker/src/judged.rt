@@ -1,7 +1,7 @@
 // The checker's answer.
 
 // Accept, the first fault (cubes from 1, columns from 0, points by their numbers), or a refusal's number with what it returns.
-#[derive(Drop)]
+#[derive(Clone, Copy)]
 pub enum Judged {
     Accept,
     Off(u32, u32),

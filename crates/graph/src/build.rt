@@ -10,7 +10,7 @@ use crate::operation::{Op, Terminal};
 use crate::{operation, table};
 
 // A number with the count of records in use after it, or no room for what it needs.
-#[derive(Drop)]
+#[derive(Clone, Copy)]
 pub enum Made {
     Done(u16, usize),
     Full,
@@ -47,7 +47,7 @@ pub fn make(
 }
 
 // Both halves of a number at a column.
-#[derive(Drop)]
+#[derive(Clone, Copy)]
 pub struct HalvesOf {
     pub low: u16,
     pub high: u16,

@@ -9,14 +9,14 @@ use crate::{build, table, walk};
 use rule::refusal;
 
 // A root with the count of records in use, or a refusal's number with the old count.
-#[derive(Drop)]
+#[derive(Clone, Copy)]
 pub enum Answer {
     Done(u16, usize),
     Refused(u16, usize),
 }
 
 // The value at a point, or a refusal's number.
-#[derive(Drop)]
+#[derive(Clone, Copy)]
 pub enum Valued {
     Is(bool),
     Denied(u16),

@@ -2,7 +2,7 @@
 ghost use Rattle.std.specs.Prelude.{◌≡◌};
 ghost use Rattle.graph.specs.Operation.{TerminalOf};
 
-#[derive(Drop)]
+#[derive(Clone, Copy)]
 pub enum Op {
     And,
     Or,
@@ -10,7 +10,7 @@ pub enum Op {
 }
 
 // A number that is the result whatever the columns are, or none: then the operands are to be split.
-#[derive(Drop)]
+#[derive(Clone, Copy)]
 pub enum Terminal {
     Known(u16),
     Split,

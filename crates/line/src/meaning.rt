@@ -10,7 +10,7 @@ use crate::scan::Class;
 use crate::{number, scan};
 
 // The types of a text.
-#[derive(Drop)]
+#[derive(Clone, Copy)]
 pub enum Kind {
     F,
     Fd,
@@ -18,7 +18,7 @@ pub enum Kind {
 }
 
 // The output signs: 0, 1, - and ~.
-#[derive(Drop)]
+#[derive(Clone, Copy)]
 pub enum Out {
     Zero,
     One,
@@ -27,7 +27,7 @@ pub enum Out {
 }
 
 // The meaning of a line. A row has its number of signs, its cube's number and its output sign.
-#[derive(Drop)]
+#[derive(Clone, Copy)]
 pub enum Line {
     Empty,
     Columns(u16),

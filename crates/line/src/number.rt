@@ -4,7 +4,7 @@ ghost use Rattle.line.specs.Decimal.{number};
 ghost use Rattle.line.specs.Scan.{told};
 
 // The number that a field is, or that it is none.
-#[derive(Drop)]
+#[derive(Clone, Copy)]
 pub enum Number {
     Is(u32),
     Nothing,

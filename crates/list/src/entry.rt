@@ -8,7 +8,7 @@ use graph::entry;
 use rule::refusal;
 
 // The length of the list that stands in the room, or a refusal's number with what it returns.
-#[derive(Drop)]
+#[derive(Clone, Copy)]
 pub enum Generated {
     Done(usize),
     Refused(u16, usize),

@@ -11,14 +11,14 @@ use steps::step;
 use steps::step::Kept;
 
 // The covers of the three lists, the count of records in use and the place after the lists; or no room for nodes.
-#[derive(Drop)]
+#[derive(Clone, Copy)]
 pub enum Lists {
     Done(u16, u16, u16, usize, usize),
     Full,
 }
 
 // The cover, the count of records in use and the place after the list; or no room for nodes.
-#[derive(Drop)]
+#[derive(Clone, Copy)]
 pub enum Listed {
     Done(u16, usize, usize),
     Full,

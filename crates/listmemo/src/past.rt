@@ -4,7 +4,7 @@ ghost use Rattle.std.specs.Prelude.{◌≡◌, ℕ, ◌<◌, ◌≤◌, List, le
 ghost use Rattle.listmemo.specs.Past.{key_of, Stands, Keeps, PastOf, Storable};
 
 // The cover of a list found before, the place of its copy, its length and the literals of the copy's path; or none.
-#[derive(Drop)]
+#[derive(Clone, Copy)]
 pub enum Past {
     Is(u16, usize, usize, u32),
     Nothing,

@@ -1,4 +1,6 @@
 // A node table as a lent row of records: the same promises as the entries on three slices, said of the row.
+#![tactic(auto)]
+
 pub mod apart;
 pub mod generator;
 pub mod operation;

@@ -8,7 +8,7 @@ use graph::entry;
 use graph::entry::Answer;
 
 // A building operation with its operands: a column, or two roots.
-#[derive(Drop)]
+#[derive(Clone, Copy)]
 pub enum Operation {
     Variable(u16),
     And(u16, u16),

@@ -7,7 +7,7 @@ use rule::refusal;
 
 // Laid out as C lays it out: three 16-bit numbers, one after the other.
 #[repr(C)]
-#[derive(Drop)]
+#[derive(Clone, Copy)]
 pub struct Node {
     pub level: u16,
     pub low: u16,

@@ -1,5 +1,7 @@
 // Reads a function text and a candidate after its `.e` on standard input, and writes the verdict or a refusal. One byte more than
 // a text may have is asked for, so that a longer input is noticed.
+#![tactic(auto)]
+
 use desk::checks;
 use libc::{STDIN_FILENO, STDOUT_FILENO};
 

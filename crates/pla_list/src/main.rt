@@ -1,5 +1,7 @@
 // Reads a function text on standard input, and writes its list or a refusal. One byte more than a text may have is asked for, so
 // that a longer input is noticed.
+#![tactic(auto)]
+
 use desk::lists;
 use libc::{STDIN_FILENO, STDOUT_FILENO};
 

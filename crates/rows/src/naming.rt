@@ -17,7 +17,7 @@ use line::meaning::{Kind, Out};
 use memo::build;
 
 // The set that a row joins: on, the other one (don't care, in fr off), or none.
-#[derive(Drop)]
+#[derive(Clone, Copy)]
 pub enum Part {
     On,
     Other,
@@ -25,7 +25,7 @@ pub enum Part {
 }
 
 // The on set and the other set with the count of records in use, or no room for what they need.
-#[derive(Drop)]
+#[derive(Clone, Copy)]
 pub enum Sets {
     Done(u16, u16, usize),
     Full,

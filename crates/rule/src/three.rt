@@ -4,7 +4,7 @@ ghost use Rattle.std.specs.Prelude.{◌≡◌};
 ghost use Rattle.rule.specs.Three.{printed, entry_of, place_of};
 
 // A value at a point: off, on, or don't care.
-#[derive(Clone, Copy, Drop)]
+#[derive(Clone, Copy)]
 pub enum Value {
     Zero,
     One,
@@ -12,7 +12,7 @@ pub enum Value {
 }
 
 // The rules of a step: keep (half, other half), remove (half, cover), join (rest 0, rest 1).
-#[derive(Clone, Copy, Drop)]
+#[derive(Clone, Copy)]
 pub enum Rule {
     Keep,
     Remove,
@@ -20,7 +20,7 @@ pub enum Rule {
 }
 
 // An entry of the table: the value that a rule gives, or never, where its two values cannot meet.
-#[derive(Clone, Copy, Drop)]
+#[derive(Clone, Copy)]
 pub enum Entry {
     Gives(Value),
     Never,

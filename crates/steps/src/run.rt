@@ -9,7 +9,7 @@ use graph::operation::Op;
 use memo::build;
 
 // Two numbers with the count of records in use after them, or no room for what they need.
-#[derive(Drop)]
+#[derive(Clone, Copy)]
 pub enum Both {
     Done(u16, u16, usize),
     Full,

@@ -13,7 +13,7 @@ use graph::build::Made;
 use graph::operation::Op;
 
 // L0, L1, U0, U1, P0, P1 and the count of records in use, or no room for them.
-#[derive(Drop)]
+#[derive(Clone, Copy)]
 pub enum Kept {
     Done(u16, u16, u16, u16, u16, u16, usize),
     Full,

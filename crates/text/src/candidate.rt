@@ -11,7 +11,7 @@ use line::meaning::Line;
 use rule::refusal;
 
 // The length of the list, or a refusal's number with what it returns.
-#[derive(Drop)]
+#[derive(Clone, Copy)]
 pub enum Candidate {
     Done(usize),
     Refused(u16, usize),

@@ -18,7 +18,7 @@ use rows::naming::Sets;
 use rule::refusal;
 
 // The columns, the count of records, L and U, or a refusal's number with what it returns.
-#[derive(Drop)]
+#[derive(Clone, Copy)]
 pub enum Function {
     Done(u16, usize, u16, u16),
     Refused(u16, usize),

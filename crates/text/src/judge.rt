@@ -9,7 +9,7 @@ use line::meaning::{Kind, Line, Out};
 
 // What the lines so far have said: the columns or 0, whether `.o` was there, the type with whether it was given, the
 // stated number of rows with whether it was given, and the rows themselves.
-#[derive(Drop)]
+#[derive(Clone, Copy)]
 pub struct State {
     pub columns: u16,
     pub output: bool,
@@ -21,7 +21,7 @@ pub struct State {
 }
 
 // What a line does: it leads on, it is a fault, or it ends the text.
-#[derive(Drop)]
+#[derive(Clone, Copy)]
 pub enum Step {
     On(State),
     Fault,
@@ -29,7 +29,7 @@ pub enum Step {
 }
 
 // A text's shape: its columns, its type and the number of its rows; or the line of its first fault.
-#[derive(Drop)]
+#[derive(Clone, Copy)]
 pub enum Judged {
     Good(u16, Kind, u32),
     Faulty(u32),

@@ -1,4 +1,6 @@
 // Reading and writing one-output PLA text: whole texts, candidate lists, and lists written out.
+#![tactic(auto)]
+
 pub mod candidate;
 pub mod ending;
 pub mod function;

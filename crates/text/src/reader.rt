@@ -5,14 +5,14 @@ ghost use Rattle.text.specs.Reader.{taken_at};
 use line::meaning::Line;
 use line::{meaning, scan};
 
-#[derive(Drop)]
+#[derive(Clone, Copy)]
 pub struct Reader<'a> {
     pub text: &'a [u8],
     pub at: usize,
 }
 
 // The meaning of a line, and the place of the line after it.
-#[derive(Drop)]
+#[derive(Clone, Copy)]
 pub struct Taken {
     pub line: Line,
     pub next: usize,

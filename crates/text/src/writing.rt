@@ -9,7 +9,7 @@ ghost use Rattle.text.specs.Room.{cleared, padded, Put};
 use rule::{cube, refusal};
 
 // The bytes written, or a refusal's number with what it returns.
-#[derive(Drop)]
+#[derive(Clone, Copy)]
 pub enum Written {
     Done(usize),
     Refused(u16, usize),
