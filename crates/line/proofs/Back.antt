@@ -1,15 +1,15 @@
 -- Written lines read back: pieces closed by their byte are those pieces, two words with a blank between are those fields, and a
 -- number in decimal is that number.
-use mathlib.Core.Path.{◌≡◌, refl, sym, ap, ap₂, ◌∙◌}
-use mathlib.Core.Bool.{Bool, true, false, cond, not, ◌&&◌}
+use mathlib.Core.Path.{◌≡◌, refl, ap, ◌∙◌}
+use mathlib.Core.Bool.{Bool, true, false, cond, not}
 use mathlib.Core.List.{List, [], ◌∷◌, ◌++◌}
 use mathlib.Core.Option.{some}
 use Prim.Native.Nat.{ℕ, zero, suc, ◌+◌, ◌*◌, ◌-◌, ◌/◌, ◌%◌, ◌^◌, ◌<◌, ◌≤◌}
 use native.Mathlib.Nat.{pow-succ'}
 use native.Mathlib.Omega.{arith}
-use lib.Dec.{eqb, leb, ltb}
+use lib.Dec.{leb, ltb}
 use lib.ListN.{length, length-append}
-use borrow.Author.Tests.{ltb-true, ltb-false, le-leb, ne_eqb, not-true}
+use borrow.Author.Tests.{ltb-true, le-leb, ne_eqb, not-true}
 use Rattle.rule.proofs.Bools.{and_left, and_right, and_intro}
 use Rattle.line.specs.Bytes.{is_newline, is_hash, is_blank, until, put_byte, split, keep, filled, words, fields}
 use Rattle.line.specs.Decimal.{all, is_digit, value_after, is_number, number, digit, decimal_of, decimal}

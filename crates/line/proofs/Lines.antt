@@ -4,13 +4,12 @@ use mathlib.Core.Path.{◌≡◌, refl, sym, ap, ap₂, ◌∙◌, subst}
 use mathlib.Core.Bool.{Bool, true, false, cond, ◌&&◌}
 use mathlib.Core.List.{List, [], ◌∷◌, map}
 use mathlib.Core.Option.{Option, some, none}
-use Prim.Native.Nat.{ℕ, zero, suc, ◌+◌, ◌<◌, ◌≤◌}
-use native.Mathlib.Omega.{arith}
+use Prim.Native.Nat.{ℕ, ◌<◌, ◌≤◌}
 use lib.Dec.{leb}
 use lib.ListN.{length, length-map}
 use borrow.Author.Tests.{le-leb, lt-leb, leb-true}
-use Rattle.rule.specs.Number.{well_formed, cube_number, signs}
-use Rattle.rule.proofs.Number.{well_formed-cube_number, cube_number-signs}
+use Rattle.rule.specs.Number.{well_formed, cube_number}
+use Rattle.rule.proofs.Number.{well_formed-cube_number}
 use Rattle.rule.proofs.Bools.{and_left, and_right}
 use Rattle.line.specs.Bytes.{is, is_hash, until, words, fields}
 use Rattle.line.specs.Decimal.{number, all}

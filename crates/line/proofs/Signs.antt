@@ -1,15 +1,14 @@
 -- The signs of a row: which bytes they are, and the cube's number read from the last to the first.
-use mathlib.Core.Path.{◌≡◌, refl, sym, ap, ◌∙◌, subst}
-use mathlib.Core.Bool.{Bool, true, false, cond, ◌&&◌, ◌||◌}
-use mathlib.Core.List.{List, [], ◌∷◌, map}
-use Prim.Native.Nat.{ℕ, zero, suc, ◌+◌, ◌*◌, ◌-◌, ◌^◌, ◌<◌, ◌≤◌}
+use mathlib.Core.Path.{◌≡◌, ap, ◌∙◌}
+use mathlib.Core.Bool.{true, false}
+use mathlib.Core.List.{List, ◌∷◌, map}
+use Prim.Native.Nat.{ℕ, suc, ◌+◌, ◌*◌, ◌-◌, ◌^◌, ◌<◌, ◌≤◌}
 use native.Mathlib.Omega.{arith}
-use lib.Dec.{eqb, leb}
+use lib.Dec.{eqb}
 use lib.ListN.{length, get_or, drop, length-drop, length-map, drop_of_length-le}
 use lib.Seq.{drop-cons}
 use borrow.Author.Tests.{eq-eqb, ne_eqb, le-leb, lt-leb}
 use Rattle.rule.specs.Point.{bit}
-use Rattle.rule.specs.Cube.{sign0, sign1, dash}
 use Rattle.rule.specs.Number.{is_one, is_zero, ones_of, zeros_of, cube_number}
 use Rattle.rule.proofs.Number.{cube_number_below}
 use Rattle.line.specs.Decimal.{all}

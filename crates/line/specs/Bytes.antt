@@ -1,7 +1,7 @@
 -- Bytes to lines, and a line to its fields.
-use Rattle.std.specs.Prelude.{Bool, true, false, cond, not, ◌&&◌, ◌||◌, List, [], ◌∷◌, ℕ, zero, suc, ◌+◌, eqb, length, drop}
+use Rattle.std.specs.Prelude.{Bool, true, false, cond, ◌||◌, List, [], ◌∷◌, ℕ, eqb}
 use Prim.Native.String.{String, [] as ε, ◌∷◌ as ◌◁◌}
-use Prim.Native.Char.{Char, code}
+use Prim.Native.Char.{code}
 use Rattle.rule.specs.Marked.{same_list}
 
 -- The bytes of a word.
