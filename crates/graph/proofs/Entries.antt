@@ -21,9 +21,8 @@ use Rattle.graph.specs.Built.{Built, Lacking, MadeOf}
 use Rattle.graph.specs.Entry.{numbers_of, table_conditions, build_conditions, cleared, count_after, answer_to, Settled, left_by, Refusing, Answered, Operated, in_range, result_of, variable_fn}
 use Rattle.graph.specs.declared.operation.Op.{Op}
 use Rattle.graph.specs.declared.build.Made.{Made}
-use Rattle.graph.specs.declared.build.Made.TheVariants as Made
 use Rattle.graph.specs.declared.entry.Answer.{Answer}
-use Rattle.graph.specs.declared.entry.Answer.TheVariants.{Done, Refused}
+use Rattle.graph.specs.declared.entry.Answer.TheVariants.{Refused}
 use Rattle.graph.proofs.Tests.{InUse, is-refers}
 use Rattle.graph.proofs.Numbers.{fn_zero, fn_one}
 use Rattle.graph.proofs.Agree.{agree_through, agree-refers, agree_fn, agree-good, agree-functions}

@@ -9,7 +9,6 @@ use Rattle.graph.specs.Operation.{op_of}
 use Rattle.graph.specs.Built.{Built}
 use Rattle.graph.specs.declared.operation.Op.{Op}
 use Rattle.graph.specs.declared.build.Made.{Made}
-use Rattle.graph.specs.declared.build.Made.TheVariants as Made
 use Rattle.graph.specs.declared.entry.Answer.{Answer}
 use Rattle.graph.specs.declared.entry.Answer.TheVariants.{Done, Refused}
 use Rattle.graph.specs.declared.entry.Valued.{Valued}

@@ -7,28 +7,24 @@ use Rattle.rule.specs.Point.{bit}
 use Rattle.rule.specs.Func.{but_not}
 use Rattle.graph.specs.Operation.{TerminalOf, op_of}
 use Rattle.graph.proofs.Terminal.{first_decides, second_decides, second_neutral, equals_decide}
-use Rattle.graph.proofs.operation.difference_terminal.Statement.{statement}
-use Rattle.graph.proofs.operation.difference_terminal.Tie as tie
+use Rattle.graph.proofs.operation.difference_terminal.Goals as goal
 
-returns : tie.Need-returns
+pub returns-then-a-eq0 : goal.returns-then-a-eq0
 unfolding TerminalOf bit op_of but_not
-returns c = first_decides false false c.if1.true (λ q. refl)
+returns-then-a-eq0 c = first_decides false false c.if-a-eq0.true (λ q. refl)
 
-returns-2 : tie.Need-returns-2
+pub returns-then-b-eq1 : goal.returns-then-b-eq1
 unfolding TerminalOf bit op_of but_not
-returns-2 c = second_decides true false c.if2.true and-false
+returns-then-b-eq1 c = second_decides true false c.if-b-eq1.true and-false
 
-returns-3 : tie.Need-returns-3
+pub returns-then-b-eq0 : goal.returns-then-b-eq0
 unfolding TerminalOf bit op_of but_not
-returns-3 c = second_neutral false c.if3.true and-true
+returns-then-b-eq0 c = second_neutral false c.if-b-eq0.true and-true
 
-returns-4 : tie.Need-returns-4
+pub returns-then-a-b : goal.returns-then-a-b
 unfolding TerminalOf bit op_of but_not
-returns-4 c = equals_decide false c.if4.true and-not_self
+returns-then-a-b c = equals_decide false c.if-a-b.true and-not_self
 
-returns-5 : tie.Need-returns-5
+pub returns : goal.returns
 unfolding TerminalOf
-returns-5 c = λ h. omega arith
-
-pub difference-terminal-spec : {M : Type 1} → statement M
-difference-terminal-spec = tie.close (tie.spec returns returns-2 returns-3 returns-4 returns-5)
+returns c = λ h. omega arith
