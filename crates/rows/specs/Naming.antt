@@ -7,7 +7,6 @@ use Rattle.graph.specs.Table.{table_of, functions}
 use Rattle.graph.specs.Sound.{Sound, Sized}
 use Rattle.graph.specs.Run.{Run, Short, Names}
 use Rattle.graph.specs.declared.build.Made.{Made}
-use Rattle.graph.specs.declared.build.Made.TheVariants as Made
 use Rattle.line.specs.Meaning.{kind_of, out_of}
 use Rattle.line.specs.declared.meaning.Kind.{Kind}
 use Rattle.line.specs.declared.meaning.Out.{Out}
