@@ -1,6 +1,6 @@
 -- Generator and checker by their contracts alone: where the generator's contract allows Done, the checker's contract allows
 -- nothing but Accept for the cubes delivered, on the table that was lent and on the table that is left.
-use mathlib.Core.Path.{◌≡◌, refl, sym, ap, ap₂, ◌∙◌, subst⁻¹}
+use mathlib.Core.Path.{◌≡◌, sym, ap, ap₂, ◌∙◌, subst⁻¹}
 use mathlib.Core.List.{List}
 use Prim.Native.Nat.{ℕ, ◌≤◌}
 use native.Mathlib.Omega.{arith}

@@ -1,13 +1,12 @@
 -- What the functions of the generator promise, step by step of the list rule.
 use Rattle.std.specs.Prelude.{◌≡◌, true, List, ◌++◌, ℕ, suc, ◌+◌, ◌-◌, ◌*◌, ◌^◌, ◌<◌, ◌≤◌, length}
 use Rattle.std.proofs.lemmas.List.Edits.{sets}
-use Rattle.rule.specs.Func.{Fn, both, either, less, within}
-use Rattle.rule.specs.Cube.{Cube, covered}
-use Rattle.rule.specs.Number.{cube_number}
+use Rattle.rule.specs.Func.{Fn, within}
+use Rattle.rule.specs.Cube.{covered}
 use Rattle.rule.specs.Nodes.{Tree, nodes, named}
 use Rattle.rule.specs.Rule.{p0_of, p1_of, g0_of, g1_of, r0_of, r1_of, r0_or_r1, u0_and_u1, g_star, list_of, result}
-use Rattle.graph.specs.Table.{table_of, fn_of, refers}
-use Rattle.graph.specs.Sound.{Sound, RootedTwice}
+use Rattle.graph.specs.Table.{table_of, fn_of}
+use Rattle.graph.specs.Sound.{RootedTwice}
 use Rattle.graph.specs.Run.{Run, Short, Names}
 use Rattle.memo.specs.Memo.{Holds}
 use Rattle.steps.specs.Step.{named_kept}

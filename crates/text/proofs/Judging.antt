@@ -1,28 +1,25 @@
 -- Judging a text: what each kind of line does, test by test, and how what is left of a text gives the whole answer.
 use mathlib.Core.Path.{◌≡◌, refl, sym, ap, ap₂, ◌∙◌}
-use mathlib.Core.Bool.{Bool, true, false, cond, not, ◌&&◌, ◌||◌}
-use mathlib.Core.List.{List, [], ◌∷◌}
-use Prim.Native.Nat.{ℕ, zero, suc, ◌+◌, ◌<◌, ◌≤◌}
+use mathlib.Core.Bool.{Bool, true, false}
+use mathlib.Core.List.{List}
+use Prim.Native.Nat.{ℕ, ◌+◌, ◌≤◌}
 use native.Mathlib.Nat.{add-zero}
 use native.Mathlib.Omega.{arith}
-use lib.Dec.{eqb}
 use lib.ListN.{length, drop, drop_of_length-le}
 use borrow.Author.Tests.{eq-eqb, ne_eqb}
 use Rattle.rule.specs.Rows as Rows
 use Rattle.line.specs.Bytes.{split, lines}
-use Rattle.line.specs.Meaning.{meaning, kind_of, row_of}
+use Rattle.line.specs.Meaning.{kind_of, row_of}
 use Rattle.line.specs.declared.meaning.Kind.{Kind}
 use Rattle.line.specs.declared.meaning.Kind.TheVariants.{F, Fd, Fr}
 use Rattle.line.specs.declared.meaning.Out.{Out}
-use Rattle.line.specs.declared.meaning.Out.TheVariants.{Zero, One, Dash, Tilde}
 use Rattle.line.specs.declared.meaning.Line.{Line}
 use Rattle.line.specs.declared.meaning.Line.TheVariants.{Empty, Columns, Output, Typed, Count, Row, End, Bad}
-use Rattle.text.specs.Outcome.{Outcome, good, fault, start, with_columns, with_output, with_kind, with_count, with_row, allows_columns, allows_kind, allows_out, first, legal, step, complete, finish, put_row, add_row, follow, run, outcome}
-use Rattle.text.specs.Judged.{kind_for, judged_plus, judged}
+use Rattle.text.specs.Outcome.{Outcome, good, fault, with_columns, with_output, with_kind, with_count, with_row, allows_columns, allows_kind, allows_out, first, legal, step, complete, finish, put_row, add_row, follow, run}
+use Rattle.text.specs.Judged.{kind_for, judged_plus}
 use Rattle.text.specs.declared.judge.State.{State}
 use Rattle.text.specs.declared.judge.Step.{Step}
 use Rattle.text.specs.declared.judge.Step.TheVariants.{On, Fault, Ended}
-use Rattle.text.specs.declared.judge.Judged.{Judged}
 use Rattle.text.specs.declared.reader.Taken.{Taken}
 use Rattle.text.proofs.Places.{Took}
 use Rattle.text.specs.declared.judge.Judged.TheVariants.{Good, Faulty}

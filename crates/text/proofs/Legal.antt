@@ -1,14 +1,13 @@
 -- The outcome that is found with a state, line by line, is the one that is said without it.
-use mathlib.Core.Path.{◌≡◌, refl, sym, ap, ap₂, ◌∙◌, subst}
+use mathlib.Core.Path.{◌≡◌, refl, sym, ap, ap₂, ◌∙◌}
 use mathlib.Core.Bool.{Bool, true, false, cond, not, ◌&&◌, ◌||◌, false≢true, true≢false}
 use mathlib.Core.List.{List, [], ◌∷◌, ◌++◌, map, append_assoc, append-nil}
-use Prim.Native.Nat.{ℕ, zero, suc, ◌+◌, ◌≤◌}
+use Prim.Native.Nat.{ℕ, ◌+◌, ◌≤◌}
 use native.Mathlib.Omega.{arith}
 use lib.Dec.{eqb}
 use lib.ListN.{length, length-append}
-use borrow.Author.Tests.{eq-eqb, ne_eqb}
+use borrow.Author.Tests.{ne_eqb}
 use Rattle.rule.specs.Rows as Rows
-use Rattle.rule.proofs.Bools.{and_left, and_right}
 use Rattle.line.specs.Bytes.{lines}
 use Rattle.line.specs.Meaning.{meaning, is_end, kind_of, row_of}
 use Rattle.line.proofs.Lines.{columns_fine}
@@ -20,8 +19,7 @@ use Rattle.line.specs.declared.meaning.Line.TheVariants.{Empty, Columns, Output,
 use Rattle.text.specs.Outcome.{Outcome, good, fault, start, with_columns, with_output, with_kind, with_count, with_row, allows_columns, allows_kind, allows_out, first, legal, step, complete, finish, put_row, add_row, follow, run, outcome}
 use Rattle.text.specs.Legal.{sort, given, said, columns_in, kind_in, count_in, columns_said, kind_said, count_said, row_said, rows_said, legal_after, whole, closed, closing, outcome_after, stateless_outcome}
 use Rattle.text.specs.declared.judge.State.{State}
-use Rattle.text.specs.declared.judge.Step.{Step}
-use Rattle.text.specs.declared.judge.Step.TheVariants.{On, Fault, Ended}
+use Rattle.text.specs.declared.judge.Step.TheVariants.{Ended}
 
 -- What one line more gives and says.
 or_of : (a b c : Bool) → (a || b) || c ≡ a || (b || c)

@@ -1,39 +1,35 @@
 -- What is written reads back as the same rows in the same order. The text's lines are those that were put; each means what it was put
 -- for; so the reader goes on to the end, row by row.
 use mathlib.Core.Path.{◌≡◌, refl, sym, ap, ap₂, ◌∙◌}
-use mathlib.Core.Bool.{Bool, true, not, ◌&&◌, ◌||◌}
-use mathlib.Core.List.{List, [], ◌∷◌, ◌++◌, map, append_assoc, append-nil}
-use mathlib.Core.Option.{Option, some, none}
-use Prim.Native.Nat.{ℕ, zero, suc, ◌+◌, ◌-◌, ◌<◌, ◌≤◌}
+use mathlib.Core.Bool.{Bool, true, not}
+use mathlib.Core.List.{List, [], ◌∷◌, ◌++◌, map, append_assoc}
+use Prim.Native.Nat.{ℕ, suc, ◌+◌, ◌<◌, ◌≤◌}
 use native.Mathlib.Omega.{arith}
-use lib.Dec.{eqb, leb, lit<}
+use lib.Dec.{lit<}
 use lib.ListN.{length, length-map}
 use borrow.Author.Tests.{le-leb, eq-eqb, ne_eqb}
-use Rattle.rule.specs.Cube.{Sign, sign0, sign1, dash, Cube}
+use Rattle.rule.specs.Cube.{sign0, sign1, dash, Cube}
 use Rattle.rule.specs.Number.{signs, cube_number, well_formed, first_malformed}
 use Rattle.rule.specs.Rows.{Row, fd, out1}
 use Rattle.rule.specs.Marked.{same_list}
 use Rattle.rule.proofs.Number.{length-signs, cube_number-signs}
 use Rattle.rule.proofs.Delivered.{AllFormed}
 use Rattle.rule.proofs.Malformed.{all-formed}
-use Rattle.rule.proofs.Bools.{clash, which}
 use Rattle.line.specs.Bytes.{bytes, is, is_newline, is_hash, is_blank, split, lines, fields, until, put_byte, words, filled, keep}
-use Rattle.line.specs.Decimal.{all, number, decimal}
+use Rattle.line.specs.Decimal.{all, decimal}
 use Rattle.line.specs.Meaning.{is_sign, read_sign, columns_line, output_line, count_line, signed_line, is_cube, read_cube, row_line, pair_line, single_line, meaning_of, meaning, kind_of, out_of, row_of}
 use Rattle.line.specs.declared.meaning.Kind.TheVariants.{Fd}
 use Rattle.line.specs.declared.meaning.Out.TheVariants.{One}
 use Rattle.line.specs.declared.meaning.Line.{Line}
-use Rattle.line.specs.declared.meaning.Line.TheVariants as Line
 use Rattle.line.proofs.Back.{none_of, all_append, Solid, split_piece, pair_newline, pair_fields, solid_decimal, number-decimal}
-use Rattle.text.specs.Outcome.{Outcome, good, start, with_columns, with_output, with_count, with_row, allows_columns, allows_out, first, legal, step, complete, finish, put_row, add_row, follow, run, outcome}
+use Rattle.text.specs.Outcome.{good, start, with_columns, with_output, with_count, with_row, allows_columns, allows_out, first, legal, step, complete, finish, put_row, add_row, follow, run, outcome}
 use Rattle.text.specs.Writing.{sign_byte, row_text, rows_text, joined, text_parts, list_text}
 use Rattle.rule.specs.Refusal.{first_broken}
 use Rattle.text.specs.Room.{padded}
 use Rattle.text.specs.Candidate.{is_good, cubes_of, read_conditions, read_by, read_answer, list_by, list_read}
 use Rattle.text.specs.declared.candidate.Candidate.TheVariants.{Done}
 use Rattle.text.specs.declared.judge.State.{State}
-use Rattle.text.specs.declared.judge.Step.{Step}
-use Rattle.text.specs.declared.judge.Step.TheVariants.{On, Ended}
+use Rattle.text.specs.declared.judge.Step.TheVariants.{On}
 
 -- The line of a row, and the words of the directives.
 row_bytes : Cube → List ℕ

@@ -32,7 +32,6 @@ use Rattle.graph.proofs.Runs.{built-run, built-names, names_stay}
 use Rattle.rows.specs.Naming.{Named, Unnamed, NamedOf}
 use Rattle.rows.specs.declared.naming.Sets.{Sets}
 use Rattle.rows.specs.declared.naming.Sets.TheVariants as sets
-use Rattle.text.specs.Outcome.{good}
 use Rattle.text.specs.Function.{room_broken, FunctionBuilt, FunctionLacks, BuiltOf, SettledOf}
 use Rattle.text.specs.declared.function.Function.{Function}
 use Rattle.text.specs.declared.function.Function.TheVariants.{Done, Refused}

@@ -2,10 +2,8 @@
 use Rattle.std.specs.Prelude.{◌≡◌, Bool, true, false, cond, ◌&&◌, ◌||◌, List, [], ◌∷◌, ◌++◌, map, ℕ, zero, suc, eqb, leb, length}
 use Rattle.rule.specs.Number.{cube_number}
 use Rattle.rule.specs.Refusal.{Condition, first_broken, columns_over, text_over, list_over, text_fault, list_lacks}
-use Rattle.rule.specs.Rows.{Row}
 use Rattle.line.specs.Meaning.{meaning, is_end}
 use Rattle.line.specs.declared.meaning.Line.{Line}
-use Rattle.line.specs.declared.meaning.Line.TheVariants as Line
 use Rattle.text.specs.Outcome.{Outcome, good, fault, outcome}
 use Rattle.text.specs.Room.{cleared, padded}
 use Rattle.text.specs.declared.candidate.Candidate.{Candidate}

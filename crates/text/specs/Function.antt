@@ -9,7 +9,6 @@ use Rattle.graph.specs.Sound.{Sound, Sized}
 use Rattle.graph.specs.Table.{table_of, functions}
 use Rattle.line.specs.Meaning.{meaning, is_end, row_of}
 use Rattle.line.specs.declared.meaning.Line.{Line}
-use Rattle.line.specs.declared.meaning.Line.TheVariants as Line
 use Rattle.text.specs.Outcome.{Outcome, good, fault, outcome}
 use Rattle.text.specs.Candidate.{is_good, fault_line}
 use Rattle.text.specs.declared.function.Function.{Function}

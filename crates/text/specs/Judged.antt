@@ -1,5 +1,5 @@
 -- What the judging function answers, in the words of `Outcome`.
-use Rattle.std.specs.Prelude.{List, ℕ, ◌+◌, length}
+use Rattle.std.specs.Prelude.{ℕ, ◌+◌, length}
 use Rattle.rule.specs.Rows as Rows
 use Rattle.line.specs.declared.meaning.Kind.{Kind}
 use Rattle.line.specs.declared.meaning.Kind.TheVariants.{F, Fd, Fr}

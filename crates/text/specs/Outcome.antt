@@ -1,5 +1,5 @@
 -- A text's outcome: its shape, or the line of its first fault in the order in which a reader meets them.
-use Rattle.std.specs.Prelude.{Bool, true, false, cond, not, ◌&&◌, ◌||◌, List, [], ◌∷◌, map, ℕ, zero, suc, ◌+◌, eqb}
+use Rattle.std.specs.Prelude.{Bool, true, false, cond, not, ◌&&◌, ◌||◌, List, [], ◌∷◌, ℕ, ◌+◌, eqb}
 use Rattle.rule.specs.Rows as Rows
 use Rattle.line.specs.Bytes.{lines}
 use Rattle.line.specs.Meaning.{meaning, kind_of, row_of}

@@ -1,5 +1,5 @@
 -- The written text of a list, and the entry that writes it: what it refuses, what it answers, and what it leaves behind.
-use Rattle.std.specs.Prelude.{◌≡◌, cond, ◌&&◌, List, [], ◌∷◌, ◌++◌, map, ℕ, zero, suc, ◌+◌, ◌≤◌, eqb, leb, length}
+use Rattle.std.specs.Prelude.{◌≡◌, cond, ◌&&◌, List, [], ◌∷◌, ◌++◌, map, ℕ, zero, suc, ◌≤◌, eqb, leb, length}
 use Rattle.rule.specs.Cube.{Sign, sign0, sign1, dash, Cube}
 use Rattle.rule.specs.Number.{signs, first_malformed}
 use Rattle.rule.specs.Refusal.{Condition, first_broken, columns_over, list_over, cube_malformed, text_lacks}
