@@ -1,0 +1,16 @@
+-- `desk::said::say_missing` meets its contract: the parts are put one after the other, and 32 bytes are enough.
+use native.Mathlib.Omega.{arith}
+use Rattle.line.specs.Bytes.{bytes}
+use Rattle.text.proofs.Room.{put_then, put-kept}
+use Rattle.desk.specs.Said.{point_text, verdict_text}
+use Rattle.desk.proofs.Saying.{length_point, said_as, three_parts}
+use Rattle.desk.proofs.said.say_missing.Goals as goal
+
+pub end_line-requires : goal.end_line-requires
+end_line-requires c = omega (arith, c.put_bytes-point_at.ensures.next, put-kept c.put_bytes-point_at.ensures, c.put_point-end_at.ensures.next, put-kept c.put_point-end_at.ensures, length_point c.args.columns c.args.point)
+
+pub returns : goal.returns
+unfolding bytes verdict_text
+returns c = said_as
+    (c.end_line.ensures _ _ (put_then c.put_bytes-point_at.ensures c.put_point-end_at.ensures))
+    (three_parts (bytes "missing ") (point_text c.args.columns c.args.point) (bytes "\n"))
