@@ -1,7 +1,6 @@
 -- The laws of rows of records, and what the walks over them share.
 pub mod Counting
 pub mod Copying
-pub mod Records
 pub mod Fields
 pub mod Refusals
 pub mod Rows
@@ -12,4 +11,3 @@ pub mod Verdicts
 pub mod Generating
 pub mod Readings
 pub mod Unique
-pub mod Lending
