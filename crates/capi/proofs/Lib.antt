@@ -1,3 +1,2 @@
 -- The laws of the exports: what the operations on a row call, and that only one answer is allowed.
-mod Operating
 pub mod Unique
