@@ -1,14 +1,13 @@
 // Reads a function text on standard input, and writes its list or a refusal. One byte more than a text may have is asked for, so
-// that a longer input is noticed.
+// that a longer input is noticed. An input ends where it cannot be read on, and an answer that cannot be written is lost.
 #![tactic(auto)]
 
 use desk::lists;
-use libc::{STDIN_FILENO, STDOUT_FILENO};
 
-fn main() {
+fn main(rt: HostRuntime) {
     let mut input = [0u8; 32769];
-    let length = io::read_full(STDIN_FILENO, &mut input);
+    let length = intake::read_full(&mut rt.stdin(), &mut input);
     let mut answer = [0u8; 29206];
     let said = lists::list_answer(&input[..length], &mut answer);
-    io::write_all(STDOUT_FILENO, &answer[..said]);
+    let _ = rt.write_all(&answer[..said]);
 }

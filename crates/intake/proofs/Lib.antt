@@ -1,0 +1,2 @@
+-- The law that the function's proof cites.
+pub mod Written
