@@ -1,7 +1,7 @@
-/* Dowrhesk for C: the functions of the static library target/staticlib/libcapi.a.
+/* Dowrhesk for C: the functions of the static library crates/capi/out/libcapi.a.
  *
- *     rt staticlib capi
- *     cc -I include program.c target/staticlib/libcapi.a
+ *     (cd crates/capi && rt lib)
+ *     cc -I include program.c crates/capi/out/libcapi.a
  *
  * A slice is a pointer and a length in elements; an empty slice may be null. What is lent to one call
  * must not overlap, except what is only read (const). Nothing is kept after a call, nothing is allocated.

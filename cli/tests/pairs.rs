@@ -58,9 +58,10 @@ fn lists_of_functions() {
 
 #[test]
 fn the_built_programs_say_the_same() {
-    let programs = ["pla_list", "pla_check"].map(|name| top().join("target/bin").join(name));
+    let built = |name: &str| top().join("crates").join(name).join("out").join(name);
+    let programs = ["pla_list", "pla_check"].map(built);
     if !programs.iter().all(|program| program.exists()) {
-        println!("skipped: `rt check pla_list pla_check` has not made the programs");
+        println!("skipped: `rt ci` has not made the programs");
         return;
     }
     let mut random = Random::new(11);

@@ -44,7 +44,7 @@ fn compile_and_run(compiler: &str, language: &[&str], name: &str) {
         .arg(package.join("../include"))
         .arg(package.join("tests/caller.c"))
         .args(["-x", "none"])
-        .arg(package.join("../target/staticlib/libcapi.a"))
+        .arg(package.join("../crates/capi/out/libcapi.a"))
         .arg("-o")
         .arg(&program)
         .output();

@@ -76,9 +76,10 @@ impl Program {
     /// The built program. It has to be there, and not older than a source file of a crate.
     pub fn built(self) -> PathBuf {
         let top = Path::new(env!("CARGO_MANIFEST_DIR")).join("../..");
-        let name = format!("target/bin/{}", self.name());
-        let word = "run `rt check pla_list pla_check` at the top of the repository; \
-            where it finds nothing changed, remove target/ before";
+        let name = format!("crates/{0}/out/{0}", self.name());
+        let word =
+            "run `rt ci` at the top of the repository, or `rt run < stdin` in the program's \
+            folder; where that finds nothing changed, remove the program before";
         let Some(made) = modified(&top.join(&name)) else {
             panic!("there is no {name}: {word}");
         };
@@ -95,12 +96,14 @@ fn modified(file: &Path) -> Option<SystemTime> {
     fs::metadata(file).and_then(|data| data.modified()).ok()
 }
 
-/// When the last of the source files below a folder was changed.
+/// When the last of the source files below a folder was changed. What a build leaves in `out` has copies
+/// of them.
 fn newest(folder: &Path) -> Option<SystemTime> {
     let time = |entry: fs::DirEntry| {
         let path = entry.path();
         let source = path.extension().is_some_and(|kind| kind == "rt");
         match path.is_dir() {
+            true if path.ends_with("out") => None,
             true => newest(&path),
             false if source => modified(&path),
             false => None,
