@@ -1,5 +1,4 @@
--- The laws of rows of records, and what the walks over them share.
-pub mod Counting
+-- The laws of rows of records.
 pub mod Copying
 pub mod Fields
 pub mod Refusals
