@@ -12,7 +12,7 @@ pub returns-then-f-lt1 : goal.returns-then-f-lt1
 returns-then-f-lt1 c = too_few c.args.f.now c.if-f-lt1.true
 
 pub returns-then-f-gt5 : goal.returns-then-f-gt5
-returns-then-f-gt5 c = too_many c.args.f.now c.if-f-lt1.false c.if-f-gt5.true
+returns-then-f-gt5 c = too_many c.args.f.now c.if-f-lt1.false (omega arith)
 
 pub loop-i-init : goal.loop-i-init
 loop-i-init c = (omega arith, omega arith, number-after c.args.f.now c.if-f-lt1.false c.if-f-gt5.false)
