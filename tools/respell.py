@@ -19,7 +19,7 @@ NAMES = "docs/PORT-NAMES.txt"
 TOKEN = re.compile(r"[^\s(){};,.@\"\[\]`]+")
 DECLARED = re.compile(
     r"^(\s*)((?:abbrev|unfoldable|pub|private|data|record|opaque)\s+)*"
-    r"([^\s(){};,.@\"\[\]:]+(?:\s+[^\s(){};,.@\"\[\]:=|λ→]+)*)\s+:\s"
+    r"([^\s(){};,.@\"\[\]:]+(?:\s+[^\s(){};,.@\"\[\]:=|λ→]+)*)\s+:(?:\s|$)"
 )
 TAKEN = re.compile(r"^\s*(?:ghost\s+)?use\s+(\S+?)(?:\.\{([^}]*)\})?;?\s*$")
 # The paper's functions of a step, and the lemmas whose names a word takes.

@@ -12,7 +12,7 @@ use Rattle.rule.specs.Nodes.{Tree, tree, own, nodes, add_all}
 use Rattle.rule.proofs.Trees.{same_as_itself}
 use Rattle.rule.proofs.Sets.{AllIn, all_present_add_nothing, adding_again-adds_nothing, add_all_append}
 use Rattle.rule.proofs.Growth.{more_no_shorter}
-use Rattle.rule.proofs.Nodes.{idle-adds-the-half's}
+use Rattle.rule.proofs.Nodes.{idle-adds_the_half's}
 use Rattle.graph.specs.Table.{Table, table_of, half_of, fn_of, refers, functions, node_fn, Agree}
 use Rattle.graph.specs.Sound.{Sound, Sized}
 use Rattle.graph.specs.Built.{Built, Lacking, MadeOf}
@@ -60,7 +60,7 @@ twin T c k m x r = λ i. (fn_of T (k + 1) m (next-idle T c k false x r i), fn_of
 
 -- The nodes of a function that does not depend on the first column are those of its half.
 twin_adds : (S : List Tree) (m : ℕ) (f : Fn m) → add_all S (nodes (suc m) (f, f)) ≡ add_all S (nodes m f)
-twin_adds S m f = idle-adds-the-half's m (f, f) (same_as_itself m f) S
+twin_adds S m f = idle-adds_the_half's m (f, f) (same_as_itself m f) S
 
 -- A result for the columns after column k is one for those from column k on, if the function does not depend on column k.
 pub built-idle : {n : ℕ} {c : ℕ} {v : List ℕ} {l : List ℕ} {h : List ℕ} {v' : List ℕ} {l' : List ℕ} {h' : List ℕ} {k : ℕ} {x : ℕ} {c' : ℕ} (m : ℕ) (f : Fn m) →

@@ -29,7 +29,7 @@ use Rattle.listmemo.specs.Copy.{numbers_under}
 use Rattle.listmemo.specs.Past.{Stands, Keeps, Storable}
 use Rattle.listmemo.proofs.Writing.{list-bound}
 use Rattle.listmemo.proofs.Staying.{keeps_stay, keeps_none}
-use Rattle.listmemo.proofs.Copying.{stands-listed}
+use Rattle.listmemo.proofs.Copying.{stands_listed}
 use Rattle.list.specs.Generating.{Listable, Expandable, ListedDone, Memos, MemosAfterLists, MemosAfter}
 use Rattle.list.specs.declared.generator.Lists.{Lists}
 use Rattle.list.specs.declared.generator.Lists.TheVariants as lists
@@ -116,7 +116,7 @@ module _ {n : ℕ} {c : ℕ} {v : List ℕ} {l : List ℕ} {h : List ℕ} {v₁ 
 
   pub list_stands : Stands n c₁ v₁ l₁ h₁ room₁ at₁ a b k g at (at₁ - at) chosen
   list_stands =
-      stands-listed room p.roots.sound p.roots.column p.roots.first p.roots.second
+      stands_listed room p.roots.sound p.roots.column p.roots.first p.roots.second
       (λ m s. (done m s).run)
       (λ m s. (done m s).cover)
       (λ m s. omega (arith, (done m s).place))

@@ -1,5 +1,5 @@
 -- Copies of a list in the room. The numbers of a list's cubes can take other literals for theirs (`stands_copyable`); a list
--- that was just written stands (`stands-new`).
+-- that was just written stands (`stands_new`).
 use mathlib.Core.Path.{◌≡◌, refl, sym, ap, ◌∙◌, subst, subst⁻¹}
 use mathlib.Core.Bool.{true}
 use mathlib.Core.List.{List, [], ◌∷◌}
@@ -127,7 +127,7 @@ module _ {n : ℕ} {c : ℕ} {v : List ℕ} {l : List ℕ} {h : List ℕ} {room 
             (sets_again s from (numbers_under old (2 ^ k) (list_of m L U)));
       }
 
-  pub stands-new :
+  pub stands_new :
       {a : ℕ} {b : ℕ} (F : List Tree) (s : List ℕ) →
       refers (table_of v l h) c k a ≡ true →
       refers (table_of v l h) c k b ≡ true →
@@ -137,7 +137,7 @@ module _ {n : ℕ} {c : ℕ} {v : List ℕ} {l : List ℕ} {h : List ℕ} {room 
       ((m : ℕ) → k + m ≡ n → room ≡ sets s from (numbers_under old (2 ^ k) (list_of m (fn_of (table_of v l h) k m a) (fn_of (table_of v l h) k m b)))) →
       from + size ≤ at →
       Stands n c v l h room at a b k g from size old
-  stands-new F s la lb adds cover long written before =
+  stands_new F s la lb adds cover long written before =
       record {
         lower = la;
         upper = lb;
@@ -146,7 +146,7 @@ module _ {n : ℕ} {c : ℕ} {v : List ℕ} {l : List ℕ} {h : List ℕ} {room 
       }
 
   -- The same with the functions of the roots in the table as it was, c₀, v₀, l₀ and h₀, and the run that led from it.
-  pub stands-listed :
+  pub stands_listed :
       {c₀ : ℕ} {v₀ : List ℕ} {l₀ : List ℕ} {h₀ : List ℕ} {a : ℕ} {b : ℕ} (s : List ℕ) →
       Sound n c₀ v₀ l₀ h₀ →
       k ≤ n →
@@ -158,7 +158,7 @@ module _ {n : ℕ} {c : ℕ} {v : List ℕ} {l : List ℕ} {h : List ℕ} {room 
       ((m : ℕ) → k + m ≡ n → room ≡ sets s from (numbers_under old (2 ^ k) (list_of m (fn_of (table_of v₀ l₀ h₀) k m a) (fn_of (table_of v₀ l₀ h₀) k m b)))) →
       from + size ≤ at →
       Stands n c v l h room at a b k g from size old
-  stands-listed {c₀} {v₀} {l₀} {h₀} {a} {b} s sound kn la lb run cover long written before =
+  stands_listed {c₀} {v₀} {l₀} {h₀} {a} {b} s sound kn la lb run cover long written before =
       let r = run (n - k) (omega arith) in
       record {
         lower = stays _ k a r la;

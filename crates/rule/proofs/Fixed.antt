@@ -12,7 +12,7 @@ use Rattle.rule.specs.Point.{Pt}
 use Rattle.rule.specs.Nodes.{Tree, leaf, fork, tree, same_tree, nodes, has}
 use Rattle.rule.proofs.Bools.{clash}
 use Rattle.rule.proofs.Trees.{same_equal, same_as_itself, same-tree-same, tree_values}
-use Rattle.rule.proofs.Nodes.{low-nodes, half-nodes, itself_a_node, node-cases}
+use Rattle.rule.proofs.Nodes.{low-nodes, half-nodes, itself_a_node, node_cases}
 
 -- A function with its first columns fixed to some digits. Digits past the last column are not read.
 unfoldable pub fixed : (m : ℕ) → Fn m → Pt → Fn m
@@ -97,11 +97,11 @@ is_leaf (leaf b) = true
 is_leaf (fork s t) = false
 
 -- A function got by fixing is a node, unless it is constant.
-reduced-a-node :
+reduced_a_node :
     (m : ℕ) (f : Fn m) → is_leaf (reduced (tree m f)) ≡ false → has (nodes m f) (reduced (tree m f)) ≡ true
 unfolding reduced tree is_leaf
-reduced-a-node zero f e = absurd (true≢false e)
-reduced-a-node (suc m) f e = go (same m f.0 f.1) refl (reduced-a-node m f.0)
+reduced_a_node zero f e = absurd (true≢false e)
+reduced_a_node (suc m) f e = go (same m f.0 f.1) refl (reduced_a_node m f.0)
   where
     go :
         (b : Bool) → same m f.0 f.1 ≡ b →
@@ -112,13 +112,13 @@ reduced-a-node (suc m) f e = go (same m f.0 f.1) refl (reduced-a-node m f.0)
         ((low-nodes m f).inside (reduced (tree m f.0)) (ih (ap is_leaf (sym (reduced_idle m f s)) ∙ e)))
     go false s ih = rw (reduced_depends m f s) (itself_a_node m f s)
 
-fixed-a-node :
+fixed_a_node :
     (m : ℕ) (f : Fn m) (p : Pt) → is_leaf (reduced (tree m (fixed m f p))) ≡ false →
     has (nodes m f) (reduced (tree m (fixed m f p))) ≡ true
 unfolding fixed reduced tree is_leaf
-fixed-a-node m f [] e = reduced-a-node m f e
-fixed-a-node zero f (b ∷ p) e = absurd (true≢false e)
-fixed-a-node (suc m) f (b ∷ p) e = step (fixed m (half b f) p) e (fixed-a-node m (half b f) p)
+fixed_a_node m f [] e = reduced_a_node m f e
+fixed_a_node zero f (b ∷ p) e = absurd (true≢false e)
+fixed_a_node (suc m) f (b ∷ p) e = step (fixed m (half b f) p) e (fixed_a_node m (half b f) p)
   where
     step :
         (g : Fn m) → is_leaf (reduced (tree (suc m) (g, g))) ≡ false →
@@ -137,7 +137,7 @@ a_node_fixed : (m : ℕ) (f : Fn m) (t : Tree) → has (nodes m f) t ≡ true �
 unfolding nodes has fixed half constant
 a_node_fixed zero f t e = absurd (false≢true e)
 a_node_fixed (suc m) f t e =
-    node-cases m f t e (λ h. after false (a_node_fixed m f.0 t h)) (λ h. after true (a_node_fixed m f.1 t h))
+    node_cases m f t e (λ h. after false (a_node_fixed m f.0 t h)) (λ h. after true (a_node_fixed m f.1 t h))
     (λ s p. record { digits = []; stands_for = reduced_depends m f s ∙ sym p; not_constant = itself s })
   where
     itself : same m f.0 f.1 ≡ false → (b : Bool) → ¬ (f ≡ constant (suc m) b)
@@ -154,5 +154,5 @@ a_node_fixed (suc m) f t e =
 pub nodes_are_the_fixed : (m : ℕ) (f : Fn m) (t : Tree) → (has (nodes m f) t ≡ true) ↔ FixedNode m f t
 nodes_are_the_fixed m f t = (
   a_node_fixed m f t,
-  λ n. rw (← n.stands_for) (fixed-a-node m f n.digits (ap is_leaf n.stands_for ∙ fixed_not_leaf m f t n)),
+  λ n. rw (← n.stands_for) (fixed_a_node m f n.digits (ap is_leaf n.stands_for ∙ fixed_not_leaf m f t n)),
 )

@@ -114,13 +114,13 @@ fresh_no_repeats S (t ∷ ts) = go (has S t) refl (fresh_no_repeats S ts) (fresh
         (has_fresh (S ++ (t ∷ [])) ts t ∙ none (has ts t) (has (S ++ (t ∷ [])) t) (has-second S (t ∷ []) t (has_itself t))) q)
 
 -- Lists without repeats that share nothing have none together.
-no-repeats-append :
+no_repeats_append :
     (xs ys : List Tree) → no_repeats xs ≡ true → no_repeats ys ≡ true →
     ((t : Tree) → has ys t ≡ true → has xs t ≡ false) → no_repeats (xs ++ ys) ≡ true
-no-repeats-append [] ys p q apart = q
-no-repeats-append (x ∷ xs) ys p q apart =
+no_repeats_append [] ys p q apart = q
+no_repeats_append (x ∷ xs) ys p q apart =
     no_repeats_cons x (xs ++ ys) (has_append xs ys x ∙ rw (no_repeats_head x xs p) other)
-    (no-repeats-append xs ys (no_repeats_tail x xs p) q (λ t e. later t (apart t e)))
+    (no_repeats_append xs ys (no_repeats_tail x xs p) q (λ t e. later t (apart t e)))
   where
     later : (t : Tree) → has (x ∷ xs) t ≡ false → has xs t ≡ false
     later t e = not_inside (all_in_tail x xs (all_in_itself (x ∷ xs))) t e
@@ -131,7 +131,7 @@ no-repeats-append (x ∷ xs) ys p q apart =
 pub add_all_no_repeats : (S ts : List Tree) → no_repeats S ≡ true → no_repeats (add_all S ts) ≡ true
 add_all_no_repeats S ts p =
     rw (add_all_fresh S ts)
-    (no-repeats-append S (fresh S ts) p (fresh_no_repeats S ts) apart)
+    (no_repeats_append S (fresh S ts) p (fresh_no_repeats S ts) apart)
   where
     apart : (t : Tree) → has (fresh S ts) t ≡ true → has S t ≡ false
     apart t e = not_is_true (has S t) (and_right (has ts t) (not (has S t)) (sym (has_fresh S ts t) ∙ e))
@@ -176,9 +176,9 @@ no_repeats_no_longer (x ∷ xs) ys p q =
     left : AllIn (take_out ys x) xs
     left = record { inside = λ t e. take_out_leaves ys x t (other t e) ∙ (all_in_tail x xs q).inside t e }
 
-pub same-members-same-length :
+pub same_members_same-length :
     (xs ys : List Tree) → no_repeats xs ≡ true → no_repeats ys ≡ true → AllIn xs ys → AllIn ys xs → length xs ≡ length ys
-same-members-same-length xs ys p q in-xs in_ys =
+same_members_same-length xs ys p q in-xs in_ys =
     le_antisymm (no_repeats_no_longer xs ys p in_ys) (no_repeats_no_longer ys xs q in-xs)
 
 -- The need does not depend on the order: it grows with the members named, and equal members need the same.
@@ -207,8 +207,8 @@ pub same-need :
     (S xs ys : List Tree) → AllIn (add_all S xs) ys → AllIn (add_all S ys) xs → length (add_all S xs) ≡ length (add_all S ys)
 same-need S xs ys p q = le_antisymm (fewer_need_no_more S xs ys q) (fewer_need_no_more S ys xs p)
 
-pub same-members-same-need :
+pub same_members_same-need :
     (S xs ys : List Tree) → ((t : Tree) → has xs t ≡ has ys t) → length (add_all S xs) ≡ length (add_all S ys)
-same-members-same-need S xs ys h =
+same_members_same-need S xs ys h =
     same-need S xs ys (all_in_added S xs (same_members_inside ys xs (λ t. sym (h t))))
     (all_in_added S ys (same_members_inside xs ys h))

@@ -16,7 +16,7 @@ use Rattle.rule.proofs.Operations.{constant-always}
 use Rattle.rule.proofs.Trees.{same_as_itself}
 use Rattle.rule.proofs.Sets.{AllIn, all_in_through, add_all_append, all_present_add_nothing}
 use Rattle.rule.proofs.Parts.{parts}
-use Rattle.rule.proofs.Nodes.{constant_no_nodes, low-nodes, high-nodes, idle-adds-the-half's}
+use Rattle.rule.proofs.Nodes.{constant_no_nodes, low-nodes, high-nodes, idle-adds_the_half's}
 use Rattle.rule.proofs.Cover.{list-covers, within_a, within_b, within_c}
 use Rattle.rule.proofs.Named.{named_step1, named_step2, named_step3, cover_added}
 use Rattle.rule.proofs.Leftmost.{twin_always, idle-lower, idle-upper, first-within, same-steps, leftmost-list}
@@ -42,7 +42,7 @@ module _ (m : ℕ) (l u : Fn m) (w : within m l u ≡ true) (S : List Tree) (has
 
   twin_cover_present : add_all (add_all S (named m l u)) (nodes (suc m) (cover, cover)) ≡ add_all S (named m l u)
   twin_cover_present =
-      idle-adds-the-half's m (cover, cover) (same_as_itself m cover) (add_all S (named m l u)) ∙ cover_present
+      idle-adds_the_half's m (cover, cover) (same_as_itself m cover) (add_all S (named m l u)) ∙ cover_present
 
   none_named : named m (constant m false) u ≡ []
   none_named = named_step1 m (constant m false) u (constant-always false m)
@@ -134,17 +134,17 @@ module _ (m : ℕ) (names names' : Fn m → Fn m → List Tree)
       (search parts depth 40 fits 9000)
       (all_in_through (search parts depth 40 fits 9000) (all_in_through has-U (high-nodes m U)))
 
-  same-names-C :
+  same-names_c :
       add_all before_c (names (r0_or_r1 m (list_of m) L U) (u0_and_u1 m (list_of m) L U)) ≡
       add_all before_c (names' (r0_or_r1 m (list_of m) L U) (u0_and_u1 m (list_of m) L U))
-  same-names-C =
+  same-names_c =
       agree (r0_or_r1 m (list_of m) L U) (u0_and_u1 m (list_of m) L U) (within_c m (list_of m) (list-covers m) L U w) before_c
       (search parts depth 40 fits 9000)
       (search parts depth 40 fits 9000)
 
   same_added3 : add_all S (named3 m (list_of m) names L U) ≡ add_all S (named3 m (list_of m) names' L U)
   unfolding named3
-  same_added3 = simp (add_all_append, same-names_a, same-names_b, same-names-C)
+  same_added3 = simp (add_all_append, same-names_a, same-names_b, same-names_c)
 
 -- What document 01's words name adds the same as what the expansion of every column names.
 pub leftmost-need :

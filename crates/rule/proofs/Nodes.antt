@@ -8,7 +8,7 @@ use native.Mathlib.Omega.{arith}
 use Rattle.rule.specs.Func.{Fn, half, constant, same}
 use Rattle.rule.specs.Nodes.{Tree, tree, own, nodes, has, add, add_all}
 use Rattle.rule.proofs.Trees.{same_trees_equal, same-tree-same, same_equal, same_as_itself}
-use Rattle.rule.proofs.Sets.{has_append, has_append_cases, has_one, has_itself, has-second, add_all_append, addAll-cases}
+use Rattle.rule.proofs.Sets.{has_append, has_append_cases, has_one, has_itself, has-second, add_all_append, add_all_cases}
 use Rattle.rule.proofs.Sets.{AllIn, all_in_itself, all_in_through, all_in_append, all_in_longer_first, all_in_longer_second}
 use Rattle.rule.proofs.Sets.{all_in_kept, all_in_added, adding_again-adds_nothing, all_present_add_nothing}
 
@@ -45,12 +45,12 @@ module _ (m : ℕ) (f : Fn (suc m)) where
       (rw e (has_itself (tree (suc m) f)))
 
   -- It has no others.
-  pub node-cases :
+  pub node_cases :
       {A : Type 0} (t : Tree) → has (nodes (suc m) f) t ≡ true →
       (has (nodes m f.0) t ≡ true → A) → (has (nodes m f.1) t ≡ true → A) →
       (same m f.0 f.1 ≡ false → t ≡ tree (suc m) f → A) → A
   unfolding nodes has own
-  node-cases {A} t e low high itself =
+  node_cases {A} t e low high itself =
       has_append_cases (nodes m f.0 ++ nodes m f.1) (own (same m f.0 f.1) (tree (suc m) f)) t e
       (λ h. has_append_cases (nodes m f.0) (nodes m f.1) t h low high)
       (λ h. go (same m f.0 f.1) refl h)
@@ -71,9 +71,9 @@ module _ (m : ℕ) (f : Fn (suc m)) where
   idle-has_the_half's e t =
       ap (λ l. has l t) (idle-nodes e) ∙ has_append (nodes m f.0) (nodes m f.0) t ∙ or_self (has (nodes m f.0) t)
 
-  pub idle-adds-the-half's :
+  pub idle-adds_the_half's :
       same m f.0 f.1 ≡ true → (S : List Tree) → add_all S (nodes (suc m) f) ≡ add_all S (nodes m f.0)
-  idle-adds-the-half's e S =
+  idle-adds_the_half's e S =
       ap (add_all S) (idle-nodes e) ∙
       add_all_append S (nodes m f.0) (nodes m f.0) ∙ adding_again-adds_nothing S (nodes m f.0)
 
@@ -111,7 +111,7 @@ pub node_shape : (m : ℕ) (f : Fn m) (t : Tree) → has (nodes m f) t ≡ true 
 unfolding nodes has
 node_shape zero f t e = absurd (false≢true e)
 node_shape (suc m) f t e =
-    node-cases m f t e (λ h. wider (node_shape m f.0 t h)) (λ h. wider (node_shape m f.1 t h))
+    node_cases m f t e (λ h. wider (node_shape m f.0 t h)) (λ h. wider (node_shape m f.1 t h))
     (λ s p. record { later = m; function = f; is = p; depends = s; fits = omega arith })
 
 -- Equal trees have the same nodes.
@@ -135,7 +135,7 @@ pub nodes-closed : (m k : ℕ) (f : Fn m) (g : Fn k) → has (nodes m f) (tree k
 unfolding nodes has
 nodes-closed zero k f g e = absurd (false≢true e)
 nodes-closed (suc m) k f g e =
-    node-cases m f (tree k g) e
+    node_cases m f (tree k g) e
     (λ h. all_in_through (low-nodes m f) (nodes-closed m k f.0 g h))
     (λ h. all_in_through (high-nodes m f) (nodes-closed m k f.1 g h))
     (λ s p. subst (AllIn (nodes (suc m) f)) (sym (tree-nodes k (suc m) g f p)) (all_in_itself (nodes (suc m) f)))
@@ -161,5 +161,5 @@ closed_append xs ys p q = record {
 pub closed-add_all : (S ts : List Tree) → Closed S → Closed ts → Closed (add_all S ts)
 closed-add_all S ts p q = record {
   closed = λ k g e.
-      addAll-cases S ts (tree k g) e (λ h. all_in_kept S ts (p.closed k g h)) (λ h. all_in_added S ts (q.closed k g h));
+      add_all_cases S ts (tree k g) e (λ h. all_in_kept S ts (p.closed k g h)) (λ h. all_in_added S ts (q.closed k g h));
 }

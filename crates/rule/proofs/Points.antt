@@ -102,8 +102,8 @@ reading_tells (a ∷ p) (b ∷ q) l e =
     ap₂ ◌∷◌ t.0 (reading_tells p q l' t.1)
 
 -- The order of readings is not the order of numbers: of 01 and 10 each has the smaller one.
-pub orders-differ :
+pub orders_differ :
     (reading (false ∷ true ∷ []) < reading (true ∷ false ∷ [])) ×
     (point_number (true ∷ false ∷ []) < point_number (false ∷ true ∷ []))
 unfolding reading point_number bit
-orders-differ = (lit< tt, lit< tt)
+orders_differ = (lit< tt, lit< tt)

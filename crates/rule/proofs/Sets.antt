@@ -84,9 +84,9 @@ add_all_keeps S ts t e = has-add_all S ts t ∙ or_left (has S t) (has ts t) e
 pub add_all-adds : (S ts : List Tree) (t : Tree) → has ts t ≡ true → has (add_all S ts) t ≡ true
 add_all-adds S ts t e = has-add_all S ts t ∙ or_right (has S t) (has ts t) e
 
-pub addAll-cases :
+pub add_all_cases :
     {A : Type 0} (S ts : List Tree) (t : Tree) → has (add_all S ts) t ≡ true → (has S t ≡ true → A) → (has ts t ≡ true → A) → A
-addAll-cases S ts t e p q = or_cases (has S t) (has ts t) (sym (has-add_all S ts t) ∙ e) p q
+add_all_cases S ts t e p q = or_cases (has S t) (has ts t) (sym (has-add_all S ts t) ∙ e) p q
 
 pub add_all-adds_no_other : (S ts : List Tree) (t : Tree) → has S t ≡ false → has ts t ≡ false → has (add_all S ts) t ≡ false
 add_all-adds_no_other S ts t e h = has-add_all S ts t ∙ or_false (has S t) (has ts t) e h
@@ -146,7 +146,7 @@ pub all_in_added : {ts : List Tree} (S xs : List Tree) → AllIn xs ts → AllIn
 all_in_added S xs p = record { inside = λ t e. add_all-adds S xs t (p.inside t e) }
 
 pub all_in_add_all : {T : List Tree} (S ts : List Tree) → AllIn T S → AllIn T ts → AllIn T (add_all S ts)
-all_in_add_all S ts p q = record { inside = λ t e. addAll-cases S ts t e (p.inside t) (q.inside t) }
+all_in_add_all S ts p q = record { inside = λ t e. add_all_cases S ts t e (p.inside t) (q.inside t) }
 
 -- What a set has not, none of its lists has.
 pub not_inside : {S ts : List Tree} → AllIn S ts → (t : Tree) → has S t ≡ false → has ts t ≡ false
@@ -182,7 +182,7 @@ adding_again-adds_nothing S ts = all_present_add_nothing (add_all S ts) ts (all_
 pub present_last_adds_nothing : (S xs ys : List Tree) → AllIn (add_all S xs) ys → add_all S (xs ++ ys) ≡ add_all S xs
 present_last_adds_nothing S xs ys p = add_all_append S xs ys ∙ all_present_add_nothing (add_all S xs) ys p
 
-pub present-between-adds-nothing :
+pub present_between_adds_nothing :
     (S xs ys zs : List Tree) → AllIn (add_all S xs) ys → add_all S (xs ++ ys ++ zs) ≡ add_all S (xs ++ zs)
-present-between-adds-nothing S xs ys zs p =
+present_between_adds_nothing S xs ys zs p =
     add_all_append S (xs ++ ys) zs ∙ rw (present_last_adds_nothing S xs ys p) (sym (add_all_append S xs zs))
