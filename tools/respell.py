@@ -2,7 +2,7 @@
 """Brings the names of this repository's own definitions and lemmas to today's spelling.
 
 usage: python3 tools/respell.py [FOLDER]    once, right after the kit's port.py, at the top of the tree or of FOLDER
-       python3 tools/respell.py --pages     later: the pages (README.md, docs/), by the names that NAMES keeps
+       python3 tools/respell.py --pages     later, once: the pages (README.md, docs/), by the names that NAMES keeps
 
 A name is taken from where it is declared: in an .antt file below crates/, at the head of a line, before a colon. Words,
 lemmas, fields and constructors go to snake case, with types and facts in camel case as they were; a dash stays where it
