@@ -5,6 +5,7 @@ use mathlib.Core.Path.{◌≡◌, refl, sym, ap, ◌∙◌}
 use mathlib.Core.Bool.{Bool, true, false, not, ◌&&◌, ◌||◌}
 use mathlib.Core.List.{List}
 use Prim.Native.Nat.{ℕ, suc}
+use Rattle.std.specs.Prelude.{Some}
 use Rattle.rule.specs.Func.{Fn, but_not, both, either, less, within}
 use Rattle.rule.specs.Point.{Pt, at}
 use Rattle.rule.specs.Cube.{Cube, covered}
@@ -13,7 +14,6 @@ use Rattle.rule.specs.Three.{lower, upper, value_of, value_at, lower_sum, upper_
 use Rattle.rule.specs.declared.three.Value.{Value}
 use Rattle.rule.specs.declared.three.Rule.{Rule}
 use Rattle.rule.specs.declared.three.Rule.TheVariants.{Keep, Remove, Join}
-use Rattle.rule.specs.declared.three.Entry.TheVariants.{Gives}
 use Rattle.rule.proofs.Bools.{and_left, and_right, or_left, or_right}
 use Rattle.rule.proofs.Func.{at_joined, at_both, at-either, within-at}
 use Rattle.rule.proofs.Cubes.{at-covered}
@@ -22,7 +22,7 @@ use Rattle.rule.proofs.Cover.{Covers, list-covers, within_0, within_1, covers_a,
 -- A step follows a rule where its two values can meet and the table's entry for them is the value that the step gives.
 pub record Follows (r : Rule) (a : Value) (b : Value) (v : Value) : Type 0 where
   pub meet : arises r a b ≡ true
-  pub gives : Gives v ≡ entry_of r a b
+  pub gives : Some v ≡ entry_of r a b
 
 -- It does where the values can meet and the step's sums are the rule's.
 by_sums : (r : Rule) (a : Value) (b : Value) (l : Bool) (u : Bool) → arises r a b ≡ true → l ≡ lower_sum r a b → u ≡ upper_sum r a b → Follows r a b (value_of l u)

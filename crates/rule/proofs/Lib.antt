@@ -18,6 +18,7 @@ pub mod Faults
 pub mod Verdict
 pub mod Delivered
 pub mod Malformed
+pub mod Refusals
 pub mod Trees
 pub mod Sets
 pub mod Parts

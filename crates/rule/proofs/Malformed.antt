@@ -1,12 +1,17 @@
 -- The first malformed cube of a list: it is the first, its position is within the list, and it is 0 exactly if every cube is
--- well formed.
+-- well formed; it is what the library's search finds.
 use mathlib.Core.Path.{◌≡◌, refl, ◌∙◌}
-use mathlib.Core.Bool.{Bool, true, false, cond}
+use mathlib.Core.Bool.{Bool, true, false, cond, not}
 use mathlib.Core.List.{List, [], ◌∷◌}
 use Prim.Native.Nat.{ℕ, zero, suc, ◌+◌, ◌<◌, ◌≤◌}
 use native.Mathlib.Omega.{arith}
+use native.Mathlib.Numerals.{add-one}
 use lib.ListN.{length, get_or}
+use Rattle.std.specs.List.{position_from}
+use Rattle.std.specs.Option.{option_map}
+use Rattle.std.specs.Prelude.{Some}
 use Rattle.rule.specs.Number.{well_formed, malformed_from, first_malformed}
+use Rattle.rule.specs.Refusal.{some_number}
 use Rattle.rule.proofs.Delivered.{AllFormed}
 
 -- Every cube of a list is well formed, place by place.
@@ -78,3 +83,20 @@ pub is-first_malformed : (m : ℕ) (xs : List ℕ) (j : ℕ) → j < length xs �
     → ((i : ℕ) → i < j → well_formed m (get_or xs i 0) ≡ true) → first_malformed m xs ≡ j + 1
 unfolding first_malformed
 is-first_malformed m xs j h e f = let p : 1 + j ≡ j + 1 = omega arith in first-from m 1 xs j h e f ∙ p
+
+-- It is one more than the first place, from 0, whose cube is not well formed.
+counted-from : (m k : ℕ) (xs : List ℕ) → option_map (λ i. i + 1) (position_from (λ x. not (well_formed m x)) k xs) ≡ some_number (malformed_from m (k + 1) xs)
+unfolding malformed_from
+counted-from m k [] = refl
+counted-from m k (x ∷ xs) = go (well_formed m x) (counted-from m (k + 1) xs)
+  where
+    go : (q : Bool)
+        → option_map (λ i. i + 1) (position_from (λ y. not (well_formed m y)) (k + 1) xs) ≡ some_number (malformed_from m (k + 1 + 1) xs)
+        → option_map (λ i. i + 1) (cond (not q) (Some k) (position_from (λ y. not (well_formed m y)) (k + 1) xs))
+        ≡ some_number (cond q (malformed_from m (k + 1 + 1) xs) (k + 1))
+    go true e = e
+    go false e = rw (add-one k) refl
+
+pub counted : (m : ℕ) (xs : List ℕ) → option_map (λ i. i + 1) (position_from (λ x. not (well_formed m x)) 0 xs) ≡ some_number (first_malformed m xs)
+unfolding first_malformed
+counted m xs = counted-from m 0 xs

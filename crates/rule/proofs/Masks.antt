@@ -10,19 +10,15 @@ use lib.Bits.{bit_and, and_step}
 use lib.Dec.{eqb, ltb}
 use lib.Pow.{pow_mono}
 use borrow.Author.Tests.{eqb-true, eqb-false, eq-eqb, ne_eqb, ltb-true, lt-ltb}
+use Rattle.std.specs.Cmp.{both_ways}
 use Rattle.rule.specs.Point.{bit, odd}
 use Rattle.rule.specs.Number.{apart, well_formed, agree, number_covers}
 use Rattle.rule.proofs.Points.{put-odd, half_below}
 
--- Two tests are the same when each passes where the other does.
-same_test : (a b : Bool) → (a ≡ true → b ≡ true) → (b ≡ true → a ≡ true) → a ≡ b
-same_test true b f g = sym (f refl)
-same_test false true f g = g refl
-same_test false false f g = refl
-
+-- Two equalities are the same when each holds where the other does.
 same_eqb : (a b c d : ℕ) → (a ≡ b → c ≡ d) → (c ≡ d → a ≡ b) → eqb a b ≡ eqb c d
 same_eqb a b c d f g =
-    same_test (eqb a b) (eqb c d) (λ e. eq-eqb c d (f (eqb-true a b e))) (λ e. eq-eqb a b (g (eqb-true c d e)))
+    both_ways (eqb a b) (eqb c d) (λ e. eq-eqb c d (f (eqb-true a b e))) (λ e. eq-eqb a b (g (eqb-true c d e)))
 
 -- Whether two numbers have a third one's bits in common, by the lowest bits and the halves.
 common_step : (a p t : ℕ) → eqb (bit_and a p) t ≡ (eqb (min (a % 2) (p % 2)) (t % 2) && eqb (bit_and (a / 2) (p / 2)) (t / 2))
@@ -85,11 +81,11 @@ agree_masks (suc m) o z p h k =
 -- Whether a number stays below the last column.
 below_one : (x : ℕ) → eqb x 0 ≡ ltb x 1
 below_one x =
-    same_test (eqb x 0) (ltb x 1) (λ e. lt-ltb x 1 (omega (arith, eqb-true x 0 e))) (λ e. eq-eqb x 0 (lt-one (ltb-true x 1 e)))
+    both_ways (eqb x 0) (ltb x 1) (λ e. lt-ltb x 1 (omega (arith, eqb-true x 0 e))) (λ e. eq-eqb x 0 (lt-one (ltb-true x 1 e)))
 
 below_half : (m x : ℕ) → ltb (x / 2) (2 ^ m) ≡ ltb x (2 ^ suc m)
 below_half m x =
-    same_test (ltb (x / 2) (2 ^ m)) (ltb x (2 ^ suc m))
+    both_ways (ltb (x / 2) (2 ^ m)) (ltb x (2 ^ suc m))
     (λ e. lt-ltb x (2 ^ suc m) (omega (arith, pow-succ' 2 m, ltb-true (x / 2) (2 ^ m) e)))
     (λ e. lt-ltb (x / 2) (2 ^ m) (half_below m x (ltb-true x (2 ^ suc m) e)))
 
@@ -129,3 +125,22 @@ first_decides a b e h = h ∙ sym (e ∙ ap (λ t. t && b) h)
 -- One shifted by at most 16 places, as the code has it, is a power of two.
 pub shifted_one : (m : ℕ) → m ≤ 16 → 1 * 2 ^ m % 4294967296 ≡ 2 ^ m
 shifted_one m h = let k : 2 ^ m ≤ 2 ^ 16 = pow_mono h in omega arith
+
+-- A half has at most 16 bits, so past 16 columns the shift may stay at 16 places.
+capped : (m x : ℕ) → x < 65536 → ltb x (2 ^ m) ≡ ltb x (1 * 2 ^ min m 16 % 4294967296)
+capped m x h =
+    let k : min m 16 ≤ 16 = omega arith in
+    let l : 2 ^ min m 16 ≤ 2 ^ m = pow_mono (omega arith) in
+    both_ways (ltb x (2 ^ m)) (ltb x (2 ^ min m 16)) (λ e. lt-ltb x (2 ^ min m 16) (below (ltb-true x (2 ^ m) e)))
+    (λ e. lt-ltb x (2 ^ m) (omega (arith, ltb-true x (2 ^ min m 16) e))) ∙
+    ap (ltb x) (sym (shifted_one (min m 16) k))
+  where
+    below : x < 2 ^ m → x < 2 ^ min m 16
+    below l = grind arith
+
+pub well_formed_capped : (m x : ℕ) → x < 2 ^ 32 → well_formed m x ≡
+    (eqb (bit_and (x % 65536) (x / 65536)) 0 &&
+    (ltb (x % 65536) (1 * 2 ^ min m 16 % 4294967296) && ltb (x / 65536) (1 * 2 ^ min m 16 % 4294967296)))
+well_formed_capped m x h =
+    well_formed_masks m x ∙
+    ap₂ (λ a b. eqb (bit_and (x % 65536) (x / 65536)) 0 && (a && b)) (capped m (x % 65536) (omega arith)) (capped m (x / 65536) (omega arith))

@@ -4,7 +4,7 @@
 use mathlib.Core.Path.{◌≡◌, refl, sym, ap, ap₂, ◌∙◌, subst}
 use mathlib.Core.Bool.{Bool, true, false, not, ◌&&◌, and-eq-true_iff, false≢true}
 use mathlib.Core.List.{List, [], ◌∷◌, map, foldr}
-use Prim.Native.Nat.{ℕ, zero, suc, ◌+◌, ◌*◌, ◌/◌, ◌%◌, ◌^◌, ◌<◌, ◌≤◌, zero-le, suc-le-suc}
+use Prim.Native.Nat.{ℕ, zero, suc, ◌+◌, ◌-◌, ◌*◌, ◌/◌, ◌%◌, ◌^◌, ◌<◌, ◌≤◌, min, zero-le, suc-le-suc}
 use native.Mathlib.Nat.{not-suc-le-zero, le_of_suc-le-suc}
 use native.Mathlib.Omega.{arith}
 use lib.ListN.{length, get_or}
@@ -12,6 +12,7 @@ use lib.Count.{ones, ones_in, ones_step, ones_cat}
 use lib.Dec.{eqb, lit<}
 use lib.Pow.{pow_mono}
 use borrow.Author.Tests.{eqb-true}
+use Rattle.std.specs.List.{fold}
 use Rattle.rule.specs.Point.{bit, odd, digits, lead, rest}
 use Rattle.rule.specs.Cube.{Sign, sign0, sign1, dash, Cube, lead_sign, rest_signs, permits, covers, is_literal, count_if, literals, dashes}
 use Rattle.rule.specs.Number.{is_one, is_zero, ones_of, zeros_of, cube_number, sign_of, signs_from, signs, apart, well_formed, agree, number_covers, literal_sum}
@@ -210,3 +211,12 @@ signs_from-none (suc m) = ap (λ c. dash ∷ c) (signs_from-none m)
 pub signs-none : (m : ℕ) → signs m 0 ≡ dashes m
 unfolding signs
 signs-none m = signs_from-none m
+
+-- Sums that stay at a largest number come to the whole sum, or stay there too.
+capped-from : (s : ℕ) (xs : List ℕ) → s ≤ 2 ^ 64 - 1 → fold (λ sum x. min (sum + ones x) (2 ^ 64 - 1)) s xs ≡ min (s + literal_sum xs) (2 ^ 64 - 1)
+unfolding literal_sum
+capped-from s [] h = omega arith
+capped-from s (x ∷ xs) h = omega (arith, capped-from (min (s + ones x) (2 ^ 64 - 1)) xs (omega arith))
+
+pub capped_literals : (xs : List ℕ) → fold (λ sum x. min (sum + ones x) (2 ^ 64 - 1)) 0 xs ≡ min (literal_sum xs) (2 ^ 64 - 1)
+capped_literals xs = omega (arith, capped-from 0 xs (omega arith))

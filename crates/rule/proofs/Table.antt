@@ -5,13 +5,13 @@ use mathlib.Core.List.{List, [], ◌∷◌, map}
 use Prim.Native.Nat.{ℕ, ◌+◌, ◌*◌, ◌<◌}
 use native.Mathlib.Omega.{arith}
 use lib.ListN.{get_or}
+use Rattle.std.specs.Prelude.{Option}
 use Rattle.rule.specs.Func.{but_not}
 use Rattle.rule.specs.Three.{place_of, lower, upper, value_of, lower_sum, upper_sum, is_star, arises, unmet, listed, entry_of, entries_of, printed}
 use Rattle.rule.specs.declared.three.Value.{Value}
 use Rattle.rule.specs.declared.three.Value.TheVariants.{Zero, One, Star}
 use Rattle.rule.specs.declared.three.Rule.{Rule}
 use Rattle.rule.specs.declared.three.Rule.TheVariants.{Keep, Remove, Join}
-use Rattle.rule.specs.declared.three.Entry.{Entry}
 
 -- What holds for each value holds for all.
 each_value : (P : Value → Type 0) → P Zero → P One → P Star → (v : Value) → P v
@@ -46,7 +46,7 @@ printed_right Remove = sym (ap (λ t. get_or t 1 []) table_test)
 printed_right Join = sym (ap (λ t. get_or t 2 []) table_test)
 
 -- The printed entry at the place of two values is what the rule gives for them.
-pub entry_at : (r : Rule) (a : Value) (b : Value) (d : Entry) {table : List Entry} {i : ℕ} {j : ℕ} →
+pub entry_at : (r : Rule) (a : Value) (b : Value) (d : Option Value) {table : List (Option Value)} {i : ℕ} {j : ℕ} →
     table ≡ printed r → i ≡ place_of a → j ≡ place_of b → get_or table (i * 3 + j) d ≡ entry_of r a b
 unfolding entries_of
 entry_at r a b d is ei ej = rw (is, printed_right r, ei, ej) (at_place (entry_of r) d a b)

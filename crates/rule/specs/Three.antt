@@ -1,13 +1,11 @@
 -- The three-valued rules: a step of the list rule at a point, over the values 0, 1 and star.
-use Rattle.std.specs.Prelude.{Bool, true, false, cond, not, ◌&&◌, ◌||◌, List, [], ◌∷◌, ℕ}
+use Rattle.std.specs.Prelude.{Bool, true, false, cond, not, ◌&&◌, ◌||◌, List, [], ◌∷◌, ℕ, Option, Some, None}
 use Rattle.rule.specs.Func.{Fn, but_not}
 use Rattle.rule.specs.Point.{Pt, at}
 use Rattle.rule.specs.declared.three.Value.{Value}
 use Rattle.rule.specs.declared.three.Value.TheVariants.{Zero, One, Star}
 use Rattle.rule.specs.declared.three.Rule.{Rule}
 use Rattle.rule.specs.declared.three.Rule.TheVariants.{Keep, Remove, Join}
-use Rattle.rule.specs.declared.three.Entry.{Entry}
-use Rattle.rule.specs.declared.three.Entry.TheVariants.{Gives, Never}
 
 -- The place of a value in the order 0, 1, star.
 unfoldable pub place_of : Value → ℕ
@@ -60,14 +58,14 @@ arises Remove a b = not (is_star b) && not (but_not (lower b) (upper a))
 arises Join a b = not (but_not (lower a) (upper b)) && not (but_not (lower b) (upper a))
 
 -- What the table prints where two values cannot meet.
-unfoldable pub unmet : Rule → Entry
-unmet Keep = Never
-unmet Remove = Never
-unmet Join = Gives Zero
+unfoldable pub unmet : Rule → Option Value
+unmet Keep = None
+unmet Remove = None
+unmet Join = Some Zero
 
 -- The entry of a rule for two values.
-unfoldable pub entry_of : Rule → Value → Value → Entry
-entry_of r a b = cond (arises r a b) (Gives (value_of (lower_sum r a b) (upper_sum r a b))) (unmet r)
+unfoldable pub entry_of : Rule → Value → Value → Option Value
+entry_of r a b = cond (arises r a b) (Some (value_of (lower_sum r a b) (upper_sum r a b))) (unmet r)
 
 -- A rule's entries in the table's order: for 0 0, 0 1, 0 *, 1 0, 1 1, 1 *, * 0, * 1, * *.
 unfoldable pub listed : {A : Type 0} → (Value → Value → A) → List A
@@ -75,13 +73,13 @@ listed f =
     f Zero Zero ∷ f Zero One ∷ f Zero Star ∷ f One Zero ∷ f One One ∷ f One Star ∷ f Star Zero ∷ f Star One ∷
     f Star Star ∷ []
 
-unfoldable pub entries_of : Rule → List Entry
+unfoldable pub entries_of : Rule → List (Option Value)
 entries_of r = listed (entry_of r)
 
 -- The table as document 01 prints it.
-unfoldable pub printed : Rule → List Entry
+unfoldable pub printed : Rule → List (Option Value)
 printed Keep =
-    Gives Zero ∷ Gives Zero ∷ Gives Zero ∷ Gives One ∷ Gives Star ∷ Gives Star ∷ Gives Star ∷ Gives Star ∷ Gives Star ∷ []
-printed Remove = Gives Zero ∷ Never ∷ Never ∷ Gives One ∷ Gives Star ∷ Never ∷ Gives Star ∷ Gives Star ∷ Never ∷ []
+    Some Zero ∷ Some Zero ∷ Some Zero ∷ Some One ∷ Some Star ∷ Some Star ∷ Some Star ∷ Some Star ∷ Some Star ∷ []
+printed Remove = Some Zero ∷ None ∷ None ∷ Some One ∷ Some Star ∷ None ∷ Some Star ∷ Some Star ∷ None ∷ []
 printed Join =
-    Gives Zero ∷ Gives Zero ∷ Gives Zero ∷ Gives Zero ∷ Gives One ∷ Gives One ∷ Gives Zero ∷ Gives One ∷ Gives Star ∷ []
+    Some Zero ∷ Some Zero ∷ Some Zero ∷ Some Zero ∷ Some One ∷ Some One ∷ Some Zero ∷ Some One ∷ Some Star ∷ []

@@ -3,7 +3,7 @@
 ghost use Rattle.std.specs.Prelude.{◌≡◌};
 ghost use Rattle.rule.specs.Three.{printed, entry_of, place_of};
 
-// A value at a point: off, on, or don't care.
+// A value at a point: off, on, or don't care, in the table's order.
 #[derive(Clone, Copy)]
 pub enum Value {
     Zero,
@@ -19,77 +19,71 @@ pub enum Rule {
     Join,
 }
 
-// An entry of the table: the value that a rule gives, or never, where its two values cannot meet.
-#[derive(Clone, Copy)]
-pub enum Entry {
-    Gives(Value),
-    Never,
-}
-
-// The table: for each rule, what it gives for two values.
-const KEEP: [Entry; 9] = [
-    Entry::Gives(Value::Zero), // half 0, other half 0
-    Entry::Gives(Value::Zero), // half 0, other half 1
-    Entry::Gives(Value::Zero), // half 0, other half *
-    Entry::Gives(Value::One), // half 1, other half 0
-    Entry::Gives(Value::Star), // half 1, other half 1
-    Entry::Gives(Value::Star), // half 1, other half *
-    Entry::Gives(Value::Star), // half *, other half 0
-    Entry::Gives(Value::Star), // half *, other half 1
-    Entry::Gives(Value::Star), // half *, other half *
+// The table: for each rule, the value that it gives for two values, or none where the two cannot meet.
+const KEEP: [Option<Value>; 9] = [
+    Some(Value::Zero), // half 0, other half 0
+    Some(Value::Zero), // half 0, other half 1
+    Some(Value::Zero), // half 0, other half *
+    Some(Value::One), // half 1, other half 0
+    Some(Value::Star), // half 1, other half 1
+    Some(Value::Star), // half 1, other half *
+    Some(Value::Star), // half *, other half 0
+    Some(Value::Star), // half *, other half 1
+    Some(Value::Star), // half *, other half *
 ];
 
-const REMOVE: [Entry; 9] = [
-    Entry::Gives(Value::Zero), // half 0, cover 0
-    Entry::Never, // half 0, cover 1
-    Entry::Never, // half 0, cover *
-    Entry::Gives(Value::One), // half 1, cover 0
-    Entry::Gives(Value::Star), // half 1, cover 1
-    Entry::Never, // half 1, cover *
-    Entry::Gives(Value::Star), // half *, cover 0
-    Entry::Gives(Value::Star), // half *, cover 1
-    Entry::Never, // half *, cover *
+const REMOVE: [Option<Value>; 9] = [
+    Some(Value::Zero), // half 0, cover 0
+    None, // half 0, cover 1
+    None, // half 0, cover *
+    Some(Value::One), // half 1, cover 0
+    Some(Value::Star), // half 1, cover 1
+    None, // half 1, cover *
+    Some(Value::Star), // half *, cover 0
+    Some(Value::Star), // half *, cover 1
+    None, // half *, cover *
 ];
 
-const JOIN: [Entry; 9] = [
-    Entry::Gives(Value::Zero), // rest 0 is 0, rest 1 is 0
-    Entry::Gives(Value::Zero), // rest 0 is 0, rest 1 is 1
-    Entry::Gives(Value::Zero), // rest 0 is 0, rest 1 is *
-    Entry::Gives(Value::Zero), // rest 0 is 1, rest 1 is 0
-    Entry::Gives(Value::One), // rest 0 is 1, rest 1 is 1
-    Entry::Gives(Value::One), // rest 0 is 1, rest 1 is *
-    Entry::Gives(Value::Zero), // rest 0 is *, rest 1 is 0
-    Entry::Gives(Value::One), // rest 0 is *, rest 1 is 1
-    Entry::Gives(Value::Star), // rest 0 is *, rest 1 is *
+const JOIN: [Option<Value>; 9] = [
+    Some(Value::Zero), // rest 0 is 0, rest 1 is 0
+    Some(Value::Zero), // rest 0 is 0, rest 1 is 1
+    Some(Value::Zero), // rest 0 is 0, rest 1 is *
+    Some(Value::Zero), // rest 0 is 1, rest 1 is 0
+    Some(Value::One), // rest 0 is 1, rest 1 is 1
+    Some(Value::One), // rest 0 is 1, rest 1 is *
+    Some(Value::Zero), // rest 0 is *, rest 1 is 0
+    Some(Value::One), // rest 0 is *, rest 1 is 1
+    Some(Value::Star), // rest 0 is *, rest 1 is *
 ];
 
-// The entries of a rule.
-fn entries(rule: Rule) -> [Entry; 9]
-    ensures { result ≡ printed rule }
-{
-    match rule {
-        Rule::Keep => KEEP,
-        Rule::Remove => REMOVE,
-        Rule::Join => JOIN,
+impl Rule {
+    // The entries of a rule.
+    #[tactic(auto, unfolding(crate::specs::Three::printed))]
+    fn entries(self) -> [Option<Value>; 9]
+        ensures { result ≡ printed self }
+    {
+        match self {
+            Rule::Keep => KEEP,
+            Rule::Remove => REMOVE,
+            Rule::Join => JOIN,
+        }
     }
 }
 
-// The place of a value in the order 0, 1, star.
-fn place(v: Value) -> usize
-    ensures { result ≡ place_of v }
-{
-    match v {
-        Value::Zero => 0,
-        Value::One => 1,
-        Value::Star => 2,
+impl Value {
+    // The place of a value in the order 0, 1, star.
+    #[tactic(auto, unfolding(crate::specs::Three::place_of))]
+    fn place(self) -> usize
+        ensures { result ≡ place_of self }
+    {
+        self as usize
     }
 }
 
 // The entry of a rule for two values.
-pub fn look_up(rule: Rule, first: Value, second: Value) -> Entry
+#[tactic(auto, using(crate::proofs::Table::place_below, crate::proofs::Table::entry_at))]
+pub fn look_up(rule: Rule, first: Value, second: Value) -> Option<Value>
     ensures { result ≡ entry_of rule first second }
 {
-    let entries = entries(rule);
-    let at = place(first) * 3 + place(second);
-    entries[at]
+    rule.entries()[first.place() * 3 + second.place()]
 }
