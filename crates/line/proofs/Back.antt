@@ -3,7 +3,7 @@
 use mathlib.Core.Path.{◌≡◌, refl, ap, ◌∙◌}
 use mathlib.Core.Bool.{Bool, true, false, cond, not}
 use mathlib.Core.List.{List, [], ◌∷◌, ◌++◌}
-use mathlib.Core.Option.{some}
+use Rattle.std.specs.Prelude.{Some}
 use Prim.Native.Nat.{ℕ, zero, suc, ◌+◌, ◌*◌, ◌-◌, ◌/◌, ◌%◌, ◌^◌, ◌<◌, ◌≤◌}
 use native.Mathlib.Nat.{pow-succ'}
 use native.Mathlib.Omega.{arith}
@@ -124,7 +124,7 @@ value_decimal (suc k) n h =
     go true e r = omega arith
     go false e r = value_append 0 (decimal_of k (n / 10)) (digit (n % 10) ∷ []) ∙ omega arith
 
-pub number-decimal : (n : ℕ) → n < 100000 → number (decimal n) ≡ some n
+pub number-decimal : (n : ℕ) → n < 100000 → number (decimal n) ≡ Some n
 unfolding number is_number decimal digit is_digit
 number-decimal n h =
     let d : all is_digit (decimal_of 4 n) ≡ true =
@@ -133,4 +133,4 @@ number-decimal n h =
     in
     let s : length (decimal_of 4 n) ≤ 5 = length-decimal n in
     rw (le-leb 1 (length (decimal_of 4 n)) (some-digit 4 n)) (rw (le-leb (length (decimal_of 4 n)) 5 s)
-    (rw d (ap some (value_decimal 4 n h))))
+    (rw d (ap Some (value_decimal 4 n h))))

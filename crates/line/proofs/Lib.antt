@@ -2,7 +2,6 @@
 pub mod Decimal
 pub mod Runs
 pub mod Fields
-pub mod Equal
 pub mod Digits
 pub mod Signs
 pub mod Lines

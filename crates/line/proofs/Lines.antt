@@ -3,11 +3,11 @@
 use mathlib.Core.Path.{◌≡◌, refl, sym, ap, ap₂, ◌∙◌, subst}
 use mathlib.Core.Bool.{Bool, true, false, cond, ◌&&◌}
 use mathlib.Core.List.{List, [], ◌∷◌, map}
-use mathlib.Core.Option.{Option, some, none}
-use Prim.Native.Nat.{ℕ, ◌<◌, ◌≤◌}
+use Prim.Native.Nat.{ℕ, ◌≤◌}
 use lib.Dec.{leb}
 use lib.ListN.{length, length-map}
-use borrow.Author.Tests.{le-leb, lt-leb, leb-true}
+use borrow.Author.Tests.{leb-true}
+use Rattle.std.specs.Prelude.{Option, Some, None}
 use Rattle.rule.specs.Number.{well_formed, cube_number}
 use Rattle.rule.proofs.Number.{well_formed-cube_number}
 use Rattle.rule.proofs.Bools.{and_left, and_right}
@@ -56,119 +56,10 @@ module _ (line kept a : List ℕ) (k : kept ≡ until is_hash line) (f : a ≡ f
       line_more z =
           sym (whole ∙ ap meaning_of (two ∙ ap (λ fs. a ∷ b ∷ fs) (a_field last (λ y. z (ap length h ∙ y)))))
 
--- The lines of two fields, test by test.
-module _ (b : List ℕ) where
-  pub columns-none : number b ≡ none → Bad ≡ columns_line (number b)
-  unfolding columns_line
-  columns-none e = rw e
-
-  module _ (n : ℕ) (e : number b ≡ some n) where
-    pub columns_small : n < 1 → Bad ≡ columns_line (number b)
-    unfolding columns_line
-    columns_small h = rw e (rw (lt-leb 1 n h))
-
-    pub columns_large : 1 ≤ n → 16 < n → Bad ≡ columns_line (number b)
-    unfolding columns_line
-    columns_large l h = rw e (rw (le-leb 1 n l) (rw (lt-leb n 16 h)))
-
-    pub columns-good : 1 ≤ n → n ≤ 16 → Columns n ≡ columns_line (number b)
-    unfolding columns_line
-    columns-good l h = rw e (rw (le-leb 1 n l) (rw (le-leb n 16 h)))
-
-    pub count-good : Count n ≡ count_line (number b)
-    unfolding count_line
-    count-good = rw e
-
-  pub count_none : number b ≡ none → Bad ≡ count_line (number b)
-  unfolding count_line
-  count_none e = rw e
-
-  pub output_yes : is "1" b ≡ true → Output ≡ output_line b
-  unfolding output_line
-  output_yes e = rw e
-
-  pub output_not : is "1" b ≡ false → Bad ≡ output_line b
-  unfolding output_line
-  output_not e = rw e
-
-  pub kind-f : is "f" b ≡ true → Typed F ≡ kind_line b
-  unfolding kind_line
-  kind-f e = rw e
-
-  pub kind-fd : is "f" b ≡ false → is "fd" b ≡ true → Typed Fd ≡ kind_line b
-  unfolding kind_line
-  kind-fd e f = rw e (rw f)
-
-  pub kind-fr : is "f" b ≡ false → is "fd" b ≡ false → is "fr" b ≡ true → Typed Fr ≡ kind_line b
-  unfolding kind_line
-  kind-fr e f g = rw e (rw f (rw g))
-
-  pub kind-none : is "f" b ≡ false → is "fd" b ≡ false → is "fr" b ≡ false → Bad ≡ kind_line b
-  unfolding kind_line
-  kind-none e f g = rw e (rw f (rw g))
-
-  module _ (n x : ℕ) where
-    pub signed_0 : is "0" b ≡ true → Row n x Zero ≡ signed_line n x b
-    unfolding signed_line
-    signed_0 e = rw e
-
-    pub signed_1 : is "0" b ≡ false → is "1" b ≡ true → Row n x One ≡ signed_line n x b
-    unfolding signed_line
-    signed_1 e f = rw e (rw f)
-
-    pub signed_dash : is "0" b ≡ false → is "1" b ≡ false → is "-" b ≡ true → Row n x Dash ≡ signed_line n x b
-    unfolding signed_line
-    signed_dash e f g = rw e (rw f (rw g))
-
-    pub signed_tilde : is "0" b ≡ false → is "1" b ≡ false → is "-" b ≡ false → is "~" b ≡ true → Row n x Tilde ≡ signed_line n x b
-    unfolding signed_line
-    signed_tilde e f g h = rw e (rw f (rw g (rw h)))
-
-    pub signed_none : is "0" b ≡ false → is "1" b ≡ false → is "-" b ≡ false → is "~" b ≡ false → Bad ≡ signed_line n x b
-    unfolding signed_line
-    signed_none e f g h = rw e (rw f (rw g (rw h)))
-
-  module _ (a : List ℕ) where
-    pub row_bad : is_cube a ≡ false → Bad ≡ row_line a b
-    unfolding row_line
-    row_bad e = rw e
-
-    pub row-good : is_cube a ≡ true → signed_line (length a) (cube_number (read_cube a)) b ≡ row_line a b
-    unfolding row_line
-    row-good e = rw e
-
-    pub pair_columns : is ".i" a ≡ true → columns_line (number b) ≡ pair_line a b
-    unfolding pair_line
-    pair_columns e = rw e
-
-    pub pair_output : is ".i" a ≡ false → is ".o" a ≡ true → output_line b ≡ pair_line a b
-    unfolding pair_line
-    pair_output e f = rw e (rw f)
-
-    pub pair_kind : is ".i" a ≡ false → is ".o" a ≡ false → is ".type" a ≡ true → kind_line b ≡ pair_line a b
-    unfolding pair_line
-    pair_kind e f g = rw e (rw f (rw g))
-
-    pub pair_count : is ".i" a ≡ false → is ".o" a ≡ false → is ".type" a ≡ false → is ".p" a ≡ true
-        → count_line (number b) ≡ pair_line a b
-    unfolding pair_line
-    pair_count e f g h = rw e (rw f (rw g (rw h)))
-
-    pub pair_row : is ".i" a ≡ false → is ".o" a ≡ false → is ".type" a ≡ false → is ".p" a ≡ false → row_line a b ≡ pair_line a b
-    unfolding pair_line
-    pair_row e f g h = rw e (rw f (rw g (rw h)))
-
-pub single_end : (a : List ℕ) → is ".e" a ≡ true → End ≡ single_line a
-unfolding single_line
-single_end a e = rw e
-
-pub single_bad : (a : List ℕ) → is ".e" a ≡ false → Bad ≡ single_line a
-unfolding single_line
-single_bad a e = rw e
-
-pub cube-short : (a : List ℕ) → is_cube a ≡ true → length a ≤ 16
+-- A cube is short.
+pub cube_short : (a : List ℕ) → is_cube a ≡ true → length a ≤ 16
 unfolding is_cube
-cube-short a e = leb-true (length a) 16 (and_left (leb (length a) 16) (all is_sign a) e)
+cube_short a e = leb-true (length a) 16 (and_left (leb (length a) 16) (all is_sign a) e)
 
 -- What every row and every `.i` of a text keeps.
 pub record FineRow (n x : ℕ) : Type 0 where
@@ -209,12 +100,12 @@ unfolding row_line
 fine_row a b = go (is_cube a) refl
   where
     go : (q : Bool) → is_cube a ≡ q → Fine (cond q (signed_line (length a) (cube_number (read_cube a)) b) Bad)
-    go true e = fine_signed (length a) (cube_number (read_cube a)) b (fine_cube a (cube-short a e))
+    go true e = fine_signed (length a) (cube_number (read_cube a)) b (fine_cube a (cube_short a e))
     go false e = tt
 
 fine_columns : (o : Option ℕ) → Fine (columns_line o)
 unfolding columns_line
-fine_columns (some n) = go (leb 1 n && leb n 16) refl
+fine_columns (Some n) = go (leb 1 n && leb n 16) refl
   where
     go : (q : Bool) → leb 1 n && leb n 16 ≡ q → Fine (cond q (Columns n) Bad)
     go true e =
@@ -223,12 +114,12 @@ fine_columns (some n) = go (leb 1 n && leb n 16) refl
           few = leb-true n 16 (and_right (leb 1 n) (leb n 16) e);
         }
     go false e = tt
-fine_columns none = tt
+fine_columns None = tt
 
 fine_count : (o : Option ℕ) → Fine (count_line o)
 unfolding count_line
-fine_count (some n) = tt
-fine_count none = tt
+fine_count (Some n) = tt
+fine_count None = tt
 
 fine_pair : (a b : List ℕ) → Fine (pair_line a b)
 unfolding pair_line output_line kind_line

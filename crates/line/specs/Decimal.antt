@@ -1,6 +1,5 @@
 -- Decimal numbers: read from one to five digits, and written without leading zeros.
-use Rattle.std.specs.Prelude.{Bool, true, cond, ◌&&◌, List, [], ◌∷◌, ◌++◌, ℕ, zero, suc, ◌+◌, ◌*◌, ◌-◌, ◌/◌, ◌%◌, leb, ltb, length}
-use Rattle.std.proofs.Math.Option.{Option, some, none}
+use Rattle.std.specs.Prelude.{Bool, true, cond, ◌&&◌, List, [], ◌∷◌, ◌++◌, ℕ, zero, suc, ◌+◌, ◌*◌, ◌-◌, ◌/◌, ◌%◌, leb, ltb, length, Option, Some, None}
 
 -- Whether every byte passes a test.
 unfoldable pub all : (ℕ → Bool) → List ℕ → Bool
@@ -21,7 +20,7 @@ unfoldable pub is_number : List ℕ → Bool
 is_number f = leb 1 (length f) && leb (length f) 5 && all is_digit f
 
 unfoldable pub number : List ℕ → Option ℕ
-number f = cond (is_number f) (some (value_after 0 f)) none
+number f = cond (is_number f) (Some (value_after 0 f)) None
 
 -- A digit's byte.
 unfoldable pub digit : ℕ → ℕ

@@ -1,6 +1,5 @@
 -- The meaning of a line by itself: function texts, candidates and the place where a function text ends all use it.
-use Rattle.std.specs.Prelude.{Bool, true, false, cond, ◌&&◌, ◌||◌, List, [], ◌∷◌, map, ℕ, ◌+◌, eqb, leb, length, drop}
-use Rattle.std.proofs.Math.Option.{Option, some, none}
+use Rattle.std.specs.Prelude.{Bool, true, false, cond, ◌&&◌, ◌||◌, List, [], ◌∷◌, map, ℕ, ◌+◌, eqb, leb, length, drop, Option, Some, None}
 use Rattle.rule.specs.Cube.{Sign, sign0, sign1, dash, Cube}
 use Rattle.rule.specs.Number.{cube_number, signs}
 use Rattle.rule.specs.Rows as Rows
@@ -22,8 +21,8 @@ read_sign b = cond (eqb b 48) sign0 (cond (eqb b 49) sign1 dash)
 
 -- `.i N`, N from 1 to 16.
 unfoldable pub columns_line : Option ℕ → Line
-columns_line (some n) = cond (leb 1 n && leb n 16) (Columns n) Bad
-columns_line none = Bad
+columns_line (Some n) = cond (leb 1 n && leb n 16) (Columns n) Bad
+columns_line None = Bad
 
 -- `.o 1`
 unfoldable pub output_line : List ℕ → Line
@@ -35,8 +34,8 @@ kind_line b = cond (is "f" b) (Typed F) (cond (is "fd" b) (Typed Fd) (cond (is "
 
 -- `.p N`
 unfoldable pub count_line : Option ℕ → Line
-count_line (some n) = Count n
-count_line none = Bad
+count_line (Some n) = Count n
+count_line None = Bad
 
 -- A row of n signs with cube number x and one output sign out of 0, 1, -, ~.
 unfoldable pub signed_line : ℕ → ℕ → List ℕ → Line

@@ -1,67 +1,46 @@
-// Runs of bytes: what stands before the first byte of a class, and what from it on; so a line's end, its comment and its fields.
-ghost use Rattle.std.specs.Prelude.{◌≡◌, eqb, ◌≤◌, length, drop};
-ghost use Rattle.rule.specs.Marked.{same_list};
+// Runs of bytes: what stands before the first byte that passes a test, and what from it on; so a line's end, its comment and its
+// fields. A test is a closure; what is ensured holds of each `p` that tells what the closure answers.
+ghost use Rattle.std.specs.Prelude.{◌≡◌, ◌≤◌, length, drop, Bool, ℕ};
 ghost use Rattle.line.specs.Bytes.{is_blank, is_newline, until, from};
-ghost use Rattle.line.specs.Scan.{test_of, first_field, rest_fields};
-
-// The classes of bytes: byte 10, "#", spaces and tabs, and all but spaces and tabs.
-#[derive(Clone, Copy)]
-pub enum Class {
-    Newline,
-    Hash,
-    Blank,
-    Filled,
-}
+ghost use Rattle.line.specs.Scan.{Tells, first_field, rest_fields};
 
 // Whether a byte is a space or a tab.
+#[tactic(auto, unfolding(crate::specs::Bytes::is_blank))]
 fn is_blank(b: u8) -> bool
     ensures { result ≡ is_blank b }
 {
-    if b == b' ' {
-        return true;
-    }
-    b == b'\t'
+    matches!(b, b' ' | b'\t')
 }
 
-// Whether a byte is of a class.
-fn in_class(what: Class, b: u8) -> bool
-    ensures { result ≡ test_of what b }
+// How many bytes stand before the first that passes a test.
+pub fn run_length<F: Fn(u8) -> bool>(s: &[u8], test: F) -> usize
+    requires { F.IsAlwaysCallable test }
+    ensures within { result ≤ length s.now }
+    ensures run { (p : ℕ → Bool) → Tells (F.post test) p → result ≡ length (until p s.now) }
 {
-    match what {
-        Class::Newline => b == b'\n',
-        Class::Hash => b == b'#',
-        Class::Blank => is_blank(b),
-        Class::Filled => !is_blank(b),
-    }
-}
-
-// How many bytes stand before the first of a class.
-pub fn run_length(s: &[u8], what: Class) -> usize
-    ensures { result ≡ length (until (test_of what) s.now) }
-{
-    let mut i = 0;
-    while i < s.len() {
-        if in_class(what, s[i]) {
+    for (i, b) in s.iter().enumerate() {
+        if test(*b) {
             return i;
         }
-        i += 1;
     }
-    i
+    s.len()
 }
 
-// The bytes before the first of a class.
-pub fn before_first(s: &[u8], what: Class) -> &[u8]
-    ensures { result.now ≡ until (test_of what) s.now }
+// The bytes before the first that passes a test.
+pub fn before_first<F: Fn(u8) -> bool>(s: &[u8], test: F) -> &[u8]
+    requires { F.IsAlwaysCallable test }
+    ensures { (p : ℕ → Bool) → Tells (F.post test) p → result.now ≡ until p s.now }
 {
-    let n = run_length(s, what);
+    let n = run_length(s, test);
     &s[..n]
 }
 
-// The bytes from the first of a class on.
-pub fn from_first(s: &[u8], what: Class) -> &[u8]
-    ensures { result.now ≡ from (test_of what) s.now }
+// The bytes from the first that passes a test on.
+pub fn from_first<F: Fn(u8) -> bool>(s: &[u8], test: F) -> &[u8]
+    requires { F.IsAlwaysCallable test }
+    ensures { (p : ℕ → Bool) → Tells (F.post test) p → result.now ≡ from p s.now }
 {
-    let n = run_length(s, what);
+    let n = run_length(s, test);
     &s[n..]
 }
 
@@ -70,39 +49,21 @@ pub fn line_at(text: &[u8], at: usize) -> &[u8]
     requires { at ≤ length text.now }
     ensures { result.now ≡ until is_newline (drop at text.now) }
 {
-    let rest = &text[at..];
-    before_first(rest, Class::Newline)
+    before_first(&text[at..], |b| b == b'\n')
 }
 
 // The first field, empty without one.
 pub fn first_field(s: &[u8]) -> &[u8]
     ensures { result.now ≡ first_field s.now }
 {
-    let t = from_first(s, Class::Filled);
-    before_first(t, Class::Blank)
+    let t = from_first(s, |b| !is_blank(b));
+    before_first(t, is_blank)
 }
 
 // What follows the first field.
 pub fn rest_fields(s: &[u8]) -> &[u8]
     ensures { result.now ≡ rest_fields s.now }
 {
-    let t = from_first(s, Class::Filled);
-    from_first(t, Class::Blank)
-}
-
-// Whether two fields are the same, byte for byte.
-pub fn same(a: &[u8], b: &[u8]) -> bool
-    ensures { result ≡ same_list eqb a.now b.now }
-{
-    if a.len() != b.len() {
-        return false;
-    }
-    let mut i = 0;
-    while i < a.len() {
-        if a[i] != b[i] {
-            return false;
-        }
-        i += 1;
-    }
-    true
+    let t = from_first(s, |b| !is_blank(b));
+    from_first(t, is_blank)
 }
