@@ -1,10 +1,10 @@
 -- The addition of a cube to what is covered and to what is covered twice, step by step as the code goes: one word for every
 -- word, or the halves by the sign of the first column.
-use mathlib.Core.Path.{◌≡◌, refl, sym, ap, ap₂, ◌∙◌}
+use mathlib.Core.Path.{◌≡◌, refl, sym, ap, ap₂, ◌∙◌, subst⁻¹}
 use mathlib.Core.Bool.{true, false}
 use mathlib.Core.List.{List, ◌++◌}
 use mathlib.Core.Logic.{◌⊎◌, inl, inr}
-use Prim.Native.Nat.{ℕ, suc, ◌-◌, ◌/◌, ◌%◌, ◌<◌, ◌≤◌}
+use Prim.Native.Nat.{ℕ, suc, ◌-◌, ◌/◌, ◌<◌, ◌≤◌}
 use native.Mathlib.Omega.{arith}
 use lib.Bits.{bit_and, bit_or}
 use lib.ListN.{length, take, drop, replicate}
@@ -15,7 +15,7 @@ use Rattle.words.specs.Word.{words, size, cube_of, plain, wordwise}
 use Rattle.words.specs.Contract.{SizedBothWord, Added}
 use Rattle.words.proofs.Tables.{few, words-both, words-either}
 use Rattle.words.proofs.Least.{both_false, either_false, either-none}
-use Rattle.words.proofs.Cubes.{cube_one, cube_zero, cube-dash, leaf-next, plain-few, words-plain, is_odd, is_even}
+use Rattle.words.proofs.Cubes.{cube_one, cube_zero, cube-dash, leaf-next, plain-few, words-plain}
 use Rattle.words.proofs.Halving.{by_suc}
 use Rattle.words.proofs.Halves.{middle, low-length, high-length, back_length, low-words, high-words, low_back, high_back}
 
@@ -187,60 +187,63 @@ module _ (k o z w h : ℕ) (covered twice : List ℕ) (more : 6 ≤ k) (half : h
               (again-halves k o z cube cube (cube-dash k o z a y) f g x (either k g.1 (both k cube f.1)) refl refl)
 
 -- The same of m columns and the m - 1 after the first, as the code has them: the middle is that of the first slice.
-module _ (m o z w : ℕ) (covered twice : List ℕ) (more : 6 < m) (s : SizedBothWord m o z w covered twice) where
+module _ (m o z w : ℕ) (covered twice : List ℕ) (more : 6 < m) (s : SizedBothWord m o z w covered twice) {o' z' : ℕ} (ones : o' ≡ o / 2) (zeros : z' ≡ z / 2) where
   abbrev mid : ℕ
   mid = length covered / 2
 
-  from_halves : (P : ℕ → ℕ → Type 0) → ((k : ℕ) → 6 ≤ k → mid ≡ size k → SizedBothWord (suc k) o z w covered twice → P (suc k) k) → P m (m - 1)
+  from_halves : (P : ℕ → ℕ → ℕ → ℕ → Type 0)
+      → ((k : ℕ) → 6 ≤ k → mid ≡ size k → SizedBothWord (suc k) o z w covered twice → P (suc k) k (o / 2) (z / 2)) → P m (m - 1) o' z'
   from_halves P h =
-      by_suc (λ m k. 6 < m → SizedBothWord m o z w covered twice → P m k)
-      (λ k l t. let a : 6 ≤ k = omega arith in h k a (middle k (length covered) a t.first) t) m (omega arith) more s
+      subst⁻¹ (λ a. P m (m - 1) a z') ones
+      (subst⁻¹ (P m (m - 1) (o / 2)) zeros
+      (by_suc (λ m k. 6 < m → SizedBothWord m o z w covered twice → P m k (o / 2) (z / 2))
+      (λ k l t. let a : 6 ≤ k = omega arith in h k a (middle k (length covered) a t.first) t) m (omega arith) more s))
 
-  pub add_low : SizedBothWord (m - 1) (o / 2) (z / 2) w (low_of mid covered) (low_of mid twice)
+  pub add_low : SizedBothWord (m - 1) o' z' w (low_of mid covered) (low_of mid twice)
   add_low =
-      from_halves (λ m k. SizedBothWord k (o / 2) (z / 2) w (low_of mid covered) (low_of mid twice))
+      from_halves (λ m k a b. SizedBothWord k a b w (low_of mid covered) (low_of mid twice))
       (λ k a i t. low-sized k o z w mid covered twice a i t)
 
-  pub add-high : SizedBothWord (m - 1) (o / 2) (z / 2) w (high_of mid covered) (high_of mid twice)
+  pub add-high : SizedBothWord (m - 1) o' z' w (high_of mid covered) (high_of mid twice)
   add-high =
-      from_halves (λ m k. SizedBothWord k (o / 2) (z / 2) w (high_of mid covered) (high_of mid twice))
+      from_halves (λ m k a b. SizedBothWord k a b w (high_of mid covered) (high_of mid twice))
       (λ k a i t. high-sized k o z w mid covered twice a i t)
 
-  pub add_one : o % 2 ≡ 1 → (c t : List ℕ) → Added (m - 1) (o / 2) (z / 2) (high_of mid covered) (high_of mid twice) c t
+  pub add_one : odd o ≡ true → (c t : List ℕ) → Added (m - 1) o' z' (high_of mid covered) (high_of mid twice) c t
       → Added m o z covered twice (put_high mid covered c) (put_high mid twice t)
   add_one p c t =
       from_halves
-      (λ m k.
-      Added k (o / 2) (z / 2) (high_of mid covered) (high_of mid twice) c t →
+      (λ m k a b.
+      Added k a b (high_of mid covered) (high_of mid twice) c t →
       Added m o z covered twice (put_high mid covered c) (put_high mid twice t))
-      (λ k a i u. added_one k o z w mid covered twice a i u (is_odd o p) c t)
+      (λ k a i u. added_one k o z w mid covered twice a i u p c t)
 
-  module _ (c t : List ℕ) (d : Added (m - 1) (o / 2) (z / 2) (low_of mid covered) (low_of mid twice) c t) where
-    pub add_zero : (o % 2 ≡ 1 → ⊥) → z % 2 ≡ 1 → Added m o z covered twice (put_low mid covered c) (put_low mid twice t)
+  module _ (c t : List ℕ) (d : Added (m - 1) o' z' (low_of mid covered) (low_of mid twice) c t) where
+    pub add_zero : odd o ≡ false → odd z ≡ true → Added m o z covered twice (put_low mid covered c) (put_low mid twice t)
     add_zero p q =
         from_halves
-        (λ m k.
-        Added k (o / 2) (z / 2) (low_of mid covered) (low_of mid twice) c t →
+        (λ m k a b.
+        Added k a b (low_of mid covered) (low_of mid twice) c t →
         Added m o z covered twice (put_low mid covered c) (put_low mid twice t))
-        (λ k a i u b. added_zero k o z w mid covered twice a i u c t b (is_even o p) (is_odd z q)) d
+        (λ k a i u b. added_zero k o z w mid covered twice a i u c t b p q) d
 
     module _ (lc : length c ≡ length (low_of mid covered)) (lt : length t ≡ length (low_of mid twice)) where
-      pub add-high-after : SizedBothWord (m - 1) (o / 2) (z / 2) w (high_of mid (put_low mid covered c)) (high_of mid (put_low mid twice t))
+      pub add-high-after : SizedBothWord (m - 1) o' z' w (high_of mid (put_low mid covered c)) (high_of mid (put_low mid twice t))
       add-high-after =
           from_halves
-          (λ m k.
-          Added k (o / 2) (z / 2) (low_of mid covered) (low_of mid twice) c t →
-          SizedBothWord k (o / 2) (z / 2) w (high_of mid (put_low mid covered c)) (high_of mid (put_low mid twice t)))
+          (λ m k a b.
+          Added k a b (low_of mid covered) (low_of mid twice) c t →
+          SizedBothWord k a b w (high_of mid (put_low mid covered c)) (high_of mid (put_low mid twice t)))
           (λ k a i u b.
           high-sized k o z w mid (put_low mid covered c) (put_low mid twice t) a i (again-sized k o z w mid covered twice a i u c t b lc lt)) d
 
-      pub add-dash : (o % 2 ≡ 1 → ⊥) → (z % 2 ≡ 1 → ⊥) → (c' t' : List ℕ)
-          → Added (m - 1) (o / 2) (z / 2) (high_of mid (put_low mid covered c)) (high_of mid (put_low mid twice t)) c' t'
+      pub add-dash : odd o ≡ false → odd z ≡ false → (c' t' : List ℕ)
+          → Added (m - 1) o' z' (high_of mid (put_low mid covered c)) (high_of mid (put_low mid twice t)) c' t'
           → Added m o z covered twice (put_high mid (put_low mid covered c) c') (put_high mid (put_low mid twice t) t')
       add-dash p q c' t' =
           from_halves
-          (λ m k.
-          Added k (o / 2) (z / 2) (low_of mid covered) (low_of mid twice) c t →
-          Added k (o / 2) (z / 2) (high_of mid (put_low mid covered c)) (high_of mid (put_low mid twice t)) c' t' →
+          (λ m k a b.
+          Added k a b (low_of mid covered) (low_of mid twice) c t →
+          Added k a b (high_of mid (put_low mid covered c)) (high_of mid (put_low mid twice t)) c' t' →
           Added m o z covered twice (put_high mid (put_low mid covered c) c') (put_high mid (put_low mid twice t) t'))
-          (λ k a i u b. added_dash k o z w mid covered twice a i u c t b lc lt (is_even o p) (is_even z q) c' t') d
+          (λ k a i u b. added_dash k o z w mid covered twice a i u c t b lc lt p q c' t') d

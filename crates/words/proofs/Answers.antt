@@ -5,6 +5,8 @@ use mathlib.Core.List.{[]}
 use mathlib.Core.Option.{Option, some, none}
 use Prim.Native.Nat.{ℕ, zero, suc, ◌+◌, ◌-◌}
 use native.Mathlib.Omega.{arith}
+use Rattle.std.specs.Prelude.{Option as Answer, Some, None}
+use Rattle.std.specs.Option.{is_some}
 use lib.Dec.{eqb}
 use borrow.Author.Tests.{eq-eqb, ne_eqb, eqb-true}
 use Rattle.rule.specs.Func.{Fn, constant, joined, but_not, both, less, always, within}
@@ -14,6 +16,7 @@ use Rattle.rule.specs.Verdict.{found, is_found}
 use Rattle.rule.proofs.Func.{within-less, at-always, always-at}
 use Rattle.rule.proofs.Search.{smallest-none, no_smallest}
 use Rattle.words.specs.Word.{found_number, cube_of}
+use Rattle.words.specs.Contract.{answer_number}
 use Rattle.words.proofs.Least.{both_true}
 use Rattle.words.proofs.Cubes.{cube-dash}
 
@@ -83,3 +86,10 @@ cube_of_dashes (suc m) = cube-dash m 0 0 even even ∙ (λ i. (cube_of_dashes m 
 
 pub both-dashes : (m : ℕ) (f : Fn m) → both m (cube_of m 0 0) f ≡ f
 both-dashes m f = ap (λ c. both m c f) (cube_of_dashes m) ∙ both_true m f
+
+-- The number that stands for what a search answers is 0 exactly if it answers None.
+pub answer-is_none : (o : Answer ℕ) (b : Bool) → is_some o ≡ not b → b ≡ eqb (answer_number o) 0
+answer-is_none None true e = refl
+answer-is_none None false e = e
+answer-is_none (Some p) true e = e ∙ sym (ne_eqb (p + 1) 0 (λ z. let x : ⊥ = omega arith in absurd x))
+answer-is_none (Some p) false e = sym (ne_eqb (p + 1) 0 (λ z. let x : ⊥ = omega arith in absurd x))

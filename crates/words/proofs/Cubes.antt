@@ -40,15 +40,6 @@ module _ (m o z : ℕ) where
   unfolding under sign_of
   cube-dash p q = cube_by_bits false false p q
 
--- A test on the lowest bit as the code has it.
-pub is_odd : (x : ℕ) → x % 2 ≡ 1 → odd x ≡ true
-unfolding odd
-is_odd x e = eq-eqb (x % 2) 1 e
-
-pub is_even : (x : ℕ) → (x % 2 ≡ 1 → ⊥) → odd x ≡ false
-unfolding odd
-is_even x h = ne_eqb (x % 2) 1 h
-
 -- The word of the last six columns.
 pub leaf-few : (m o z : ℕ) → m ≤ 6 → leaf m o z ≡ num m (cube_of m o z)
 unfolding leaf

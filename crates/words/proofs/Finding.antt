@@ -1,14 +1,14 @@
 -- The search for the smallest point of a table that a cube covers, step by step as the code goes: a single word, one word
 -- against each word, and the halves by the sign of the first column.
-use mathlib.Core.Path.{◌≡◌, refl, sym, ap, ap₂, ◌∙◌}
+use mathlib.Core.Path.{◌≡◌, refl, sym, ap, ap₂, ◌∙◌, subst⁻¹}
 use mathlib.Core.Bool.{Bool, true, false}
 use mathlib.Core.List.{List}
-use Prim.Native.Nat.{ℕ, suc, ◌-◌, ◌*◌, ◌/◌, ◌%◌, ◌^◌, ◌<◌, ◌≤◌}
+use mathlib.Core.Logic.{◌⊎◌, inl, inr}
+use Prim.Native.Nat.{ℕ, suc, ◌-◌, ◌*◌, ◌/◌, ◌<◌, ◌≤◌}
 use native.Mathlib.Nat.{pow-suc}
 use native.Mathlib.Omega.{arith}
 use lib.Bits.{bit_and}
 use lib.ListN.{length, get_or, take, drop, replicate}
-use lib.Pow.{pow_mono}
 use Rattle.rule.specs.Func.{Fn, constant, joined, both}
 use Rattle.rule.specs.Point.{odd, smallest}
 use Rattle.words.specs.Word.{words, size, cube_of, found_number, plain, wordwise}
@@ -16,9 +16,9 @@ use Rattle.words.specs.Contract.{SizedWord, FirstBit, FirstUnder, FirstIn}
 use Rattle.words.proofs.Num.{num-both}
 use Rattle.words.proofs.Tables.{words-few, words-both}
 use Rattle.words.proofs.Least.{none_found, found_in_low, found_in_high, both_false}
-use Rattle.words.proofs.Cubes.{cube_one, cube_zero, cube-dash, leaf-few, leaf-next, words-plain, is_odd, is_even}
+use Rattle.words.proofs.Cubes.{cube_one, cube_zero, cube-dash, leaf-few, leaf-next, words-plain}
 use Rattle.words.proofs.Halving.{by_suc}
-use Rattle.words.proofs.Halves.{middle, low-length, high-length, low-words, high-words}
+use Rattle.words.proofs.Halves.{middle, low-length, last-length, low-words, last_words}
 
 -- Up to six columns: the word of the table against the cube's.
 pub one_word : (m o z w : ℕ) (xs : List ℕ) (r : ℕ) → SizedWord m o z w xs → m ≤ 6 → FirstBit m (bit_and w (get_or xs 0 0)) r → FirstIn m o z xs r
@@ -47,7 +47,7 @@ abbrev low_of : List ℕ → List ℕ
 low_of xs = take (length xs / 2) xs
 
 abbrev high_of : List ℕ → List ℕ
-high_of xs = take (length xs - length xs / 2) (drop (length xs / 2) xs)
+high_of xs = drop (length xs / 2) xs
 
 module _ (k o z w : ℕ) (xs : List ℕ) (more : 6 ≤ k) (s : SizedWord (suc k) o z w xs) where
   half : length xs / 2 ≡ size k
@@ -65,7 +65,7 @@ module _ (k o z w : ℕ) (xs : List ℕ) (more : 6 ≤ k) (s : SizedWord (suc k)
   high-sized =
       record {
         columns = omega (arith, s.columns);
-        long = high-length k (length xs / 2) xs more half s.long;
+        long = last-length k (length xs / 2) xs more half s.long;
         word = s.word ∙ leaf-next k o z more;
       }
 
@@ -92,7 +92,7 @@ module _ (k o z w : ℕ) (xs : List ℕ) (more : 6 ≤ k) (s : SizedWord (suc k)
       record {
         bound = omega (arith, b.bound, pow-suc 2 k);
         found = λ f e.
-            ap (λ n. 2 * n) (b.found f.1 (high-words k (length xs / 2) xs more half s.long f e)) ∙
+            ap (λ n. 2 * n) (b.found f.1 (last_words k (length xs / 2) xs more half s.long f e)) ∙
             sym (by_high (constant k false) (cube_of k (o / 2) (z / 2)) (cube_one k o z a) f (unreached f.0));
       }
 
@@ -132,44 +132,55 @@ module _ (k o z w : ℕ) (xs : List ℕ) (more : 6 ≤ k) (s : SizedWord (suc k)
         record {
           bound = omega (arith, d.bound, pow-suc 2 k);
           found = λ f e.
-              ap (λ n. 2 * n) (d.found f.1 (high-words k (length xs / 2) xs more half s.long f e)) ∙
+              ap (λ n. 2 * n) (d.found f.1 (last_words k (length xs / 2) xs more half s.long f e)) ∙
               sym (by_high (cube_of k (o / 2) (z / 2)) (cube_of k (o / 2) (z / 2)) (cube-dash k o z a y) f (sym (low-found f e) ∙ n));
         }
 
--- The same of m columns and the m - 1 after the first, as the code has them.
-module _ (m o z w : ℕ) (xs : List ℕ) (more : 6 < m) (s : SizedWord m o z w xs) where
-  from_halves : (P : ℕ → ℕ → Type 0) → ((k : ℕ) → 6 ≤ k → SizedWord (suc k) o z w xs → P (suc k) k) → P m (m - 1)
+-- The same of m columns and the m - 1 after the first, as the code has them, with the halves of the slice and of the cube that
+-- it has made.
+module _ (m o z w : ℕ) (xs : List ℕ) (more : 6 < m) (s : SizedWord m o z w xs) {o' z' : ℕ} (ones : o' ≡ o / 2) (zeros : z' ≡ z / 2) {lo hi : List ℕ} (front : lo ≡ low_of xs) (back : hi ≡ high_of xs) where
+  from_halves : (P : ℕ → ℕ → ℕ → ℕ → List ℕ → List ℕ → Type 0)
+      → ((k : ℕ) → 6 ≤ k → SizedWord (suc k) o z w xs → P (suc k) k (o / 2) (z / 2) (low_of xs) (high_of xs))
+      → P m (m - 1) o' z' lo hi
   from_halves P h =
-      by_suc (λ m k. 6 < m → SizedWord m o z w xs → P m k)
-      (λ k l t. let a : 6 ≤ k = omega arith in h k a t) m (omega arith) more s
+      subst⁻¹ (λ a. P m (m - 1) a z' lo hi) ones
+      (subst⁻¹ (λ b. P m (m - 1) (o / 2) b lo hi) zeros
+      (subst⁻¹ (λ l. P m (m - 1) (o / 2) (z / 2) l hi) front
+      (subst⁻¹ (P m (m - 1) (o / 2) (z / 2) (low_of xs)) back
+      (by_suc (λ m k. 6 < m → SizedWord m o z w xs → P m k (o / 2) (z / 2) (low_of xs) (high_of xs))
+      (λ k l t. let a : 6 ≤ k = omega arith in h k a t) m (omega arith) more s))))
 
-  pub search_low : SizedWord (m - 1) (o / 2) (z / 2) w (low_of xs)
-  search_low = from_halves (λ m k. SizedWord k (o / 2) (z / 2) w (low_of xs)) (λ k a t. low-sized k o z w xs a t)
+  pub search_low : SizedWord (m - 1) o' z' w lo
+  search_low = from_halves (λ m k a b lo hi. SizedWord k a b w lo) (λ k h t. low-sized k o z w xs h t)
 
-  pub search_high : SizedWord (m - 1) (o / 2) (z / 2) w (high_of xs)
-  search_high = from_halves (λ m k. SizedWord k (o / 2) (z / 2) w (high_of xs)) (λ k a t. high-sized k o z w xs a t)
+  pub search_high : SizedWord (m - 1) o' z' w hi
+  search_high = from_halves (λ m k a b lo hi. SizedWord k a b w hi) (λ k h t. high-sized k o z w xs h t)
 
-  pub search_one : (r : ℕ) → o % 2 ≡ 1 → FirstIn (m - 1) (o / 2) (z / 2) (high_of xs) r → FirstIn m o z xs (2 * r)
-  search_one r p =
-      from_halves (λ m k. FirstIn k (o / 2) (z / 2) (high_of xs) r → FirstIn m o z xs (2 * r))
-      (λ k a t. found_one k o z w xs a t r (is_odd o p))
+  pub search_one : (r : ℕ) → odd o ≡ true → FirstIn (m - 1) o' z' hi r → FirstIn m o z xs (2 * r)
+  search_one r c =
+      from_halves (λ m k a b lo hi. FirstIn k a b hi r → FirstIn m o z xs (2 * r))
+      (λ k h t. found_one k o z w xs h t r c)
 
-  pub search_found : (l : ℕ) → (o % 2 ≡ 1 → ⊥) → (l ≡ 0 → ⊥) → FirstIn (m - 1) (o / 2) (z / 2) (low_of xs) l → FirstIn m o z xs (2 * l - 1)
-  search_found l p n =
-      from_halves (λ m k. FirstIn k (o / 2) (z / 2) (low_of xs) l → FirstIn m o z xs (2 * l - 1))
-      (λ k a t b. found-low k o z w xs a t l (is_even o p) b n)
+  pub search_found : (l : ℕ) → odd o ≡ false → (l ≡ 0 → ⊥) → FirstIn (m - 1) o' z' lo l → FirstIn m o z xs (2 * l - 1)
+  search_found l c n =
+      from_halves (λ m k a b lo hi. FirstIn k a b lo l → FirstIn m o z xs (2 * l - 1))
+      (λ k h t d. found-low k o z w xs h t l c d n)
 
-  pub search_zero : (l : ℕ) → (o % 2 ≡ 1 → ⊥) → l ≡ 0 → z % 2 ≡ 1 → FirstIn (m - 1) (o / 2) (z / 2) (low_of xs) l → FirstIn m o z xs 0
-  search_zero l p n q =
-      from_halves (λ m k. FirstIn k (o / 2) (z / 2) (low_of xs) l → FirstIn m o z xs 0)
-      (λ k a t b. found_zero k o z w xs a t l (is_even o p) b n (is_odd z q))
+  pub search_zero : (l : ℕ) → odd o ≡ false → l ≡ 0 → odd z ≡ true → FirstIn (m - 1) o' z' lo l → FirstIn m o z xs 0
+  search_zero l c n e =
+      from_halves (λ m k a b lo hi. FirstIn k a b lo l → FirstIn m o z xs 0)
+      (λ k h t d. found_zero k o z w xs h t l c d n e)
 
-  pub search_dash : (l r : ℕ) → (o % 2 ≡ 1 → ⊥) → l ≡ 0 → (z % 2 ≡ 1 → ⊥) → FirstIn (m - 1) (o / 2) (z / 2) (low_of xs) l
-      → FirstIn (m - 1) (o / 2) (z / 2) (high_of xs) r → FirstIn m o z xs (2 * r)
-  search_dash l r p n q =
-      from_halves (λ m k. FirstIn k (o / 2) (z / 2) (low_of xs) l → FirstIn k (o / 2) (z / 2) (high_of xs) r → FirstIn m o z xs (2 * r))
-      (λ k a t b d. found-dash k o z w xs a t l (is_even o p) b n (is_even z q) r d)
+  pub search_dash : (l r : ℕ) → odd o ≡ false → l ≡ 0 → odd z ≡ false → FirstIn (m - 1) o' z' lo l → FirstIn (m - 1) o' z' hi r
+      → FirstIn m o z xs (2 * r)
+  search_dash l r c n e =
+      from_halves (λ m k a b lo hi. FirstIn k a b lo l → FirstIn k a b hi r → FirstIn m o z xs (2 * r))
+      (λ k h t d. found-dash k o z w xs h t l c d n e r)
 
--- What is found in at most 16 columns is at most 65536.
-pub most-found : {m o z r : ℕ} {xs : List ℕ} → FirstIn m o z xs r → m ≤ 16 → r ≤ 65536
-most-found {m} b h = let p : 2 ^ m ≤ 2 ^ 16 = pow_mono h in omega (arith, b.bound)
+  -- The half for 1 decides: the first column must be 1, or it is a dash and the half for 0 has nothing.
+  abbrev pub HighDecides : Type 0
+  HighDecides = (odd o ≡ true) ⊎ ((odd o ≡ false) × (odd z ≡ false) × FirstIn (m - 1) o' z' lo 0)
+
+  pub search_high-part : HighDecides → (r : ℕ) → FirstIn (m - 1) o' z' hi r → FirstIn m o z xs (2 * r)
+  search_high-part (inl c) r = search_one r c
+  search_high-part (inr (c, e, d)) r = search_dash 0 r c refl e d

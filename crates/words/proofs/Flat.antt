@@ -1,26 +1,17 @@
 -- What the loops over whole tables leave, said of the functions whose tables they were.
 use mathlib.Core.Path.{◌≡◌, sym, ap, ap₂, ◌∙◌}
-use mathlib.Core.Bool.{Bool, true}
+use mathlib.Core.Bool.{true}
 use mathlib.Core.List.{List}
-use mathlib.Core.Logic.{◌⊎◌, inl, inr}
-use Prim.Native.Nat.{ℕ, ◌+◌, ◌<◌, ◌≤◌}
+use Prim.Native.Nat.{ℕ, ◌<◌, ◌≤◌}
 use native.Mathlib.Omega.{arith}
 use lib.Bits.{bit_and, bit_or}
 use lib.ListN.{length, get_or, replicate, length-replicate, get_or-replicate}
 use Rattle.rule.specs.Func.{constant}
-use Rattle.words.specs.Word.{words, size, wordwise}
+use Rattle.words.specs.Word.{size, wordwise}
 use Rattle.words.specs.Contract.{ConstantWord, Lessened, Outside}
 use Rattle.words.proofs.Num.{less_word}
 use Rattle.words.proofs.Tables.{words-less}
-use Rattle.words.proofs.Loops.{SoFar, which, so_far_end, length-wordwise, get_d_wordwise}
-
--- A table filled with the word of a constant.
-pub filled : (m : ℕ) (b : Bool) (w : ℕ) {old now : List ℕ} {i : ℕ} → ConstantWord m b w → length old ≡ size m
-    → SoFar (λ k. w) old now i → length old ≤ i → now ≡ words m (constant m b)
-filled m b w {old} c l s h =
-    so_far_end s h (replicate (size m) w) (length-replicate (size m) w ∙ sym l)
-    (λ k p. let q : k < size m = omega arith in sym (get_or-replicate (size m) k w 0 q)) ∙
-    sym c.table
+use Rattle.words.proofs.Loops.{SoFar, so_far_end, length-wordwise, get_d_wordwise}
 
 -- One table less another, joined word by word.
 pub lessened : (xs ys : List ℕ) {now : List ℕ} → now ≡ wordwise less_word xs ys → Lessened xs ys now
@@ -59,15 +50,6 @@ added_again w covered old {i = i} s h e =
     ap (λ x. bit_or (get_or old k 0) (bit_and x (get_or covered k 0))) (sym (each_word w covered k a)) ∙
     ap (bit_or (get_or old k 0)) (sym (get_d_wordwise bit_and (replicate (length covered) w) covered k r b)) ∙
     sym (get_d_wordwise bit_or old (wordwise bit_and (replicate (length covered) w) covered) k t l))
-
--- No word before a place meets a word, nor does the one at that place.
-pub none_yet : (w : ℕ) (xs : List ℕ) (i : ℕ) → ((k : ℕ) → k < i → bit_and (get_or xs k 0) w ≡ 0) → bit_and (get_or xs i 0) w ≡ 0
-    → (k : ℕ) → k < i + 1 → bit_and (get_or xs k 0) w ≡ 0
-none_yet w xs i before e k h = go (which k i (omega arith))
-  where
-    go : (k < i) ⊎ (k ≡ i) → bit_and (get_or xs k 0) w ≡ 0
-    go (inl l) = before k l
-    go (inr p) = ap (λ n. bit_and (get_or xs n 0) w) p ∙ e
 
 -- Every point less a table: one word less each word.
 pub outside_end : (m w : ℕ) (old : List ℕ) {now : List ℕ} {i : ℕ} → ConstantWord m true w → length old ≡ size m

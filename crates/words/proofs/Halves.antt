@@ -27,6 +27,9 @@ module _ (k h : ℕ) (xs : List ℕ) (more : 6 ≤ k) (half : h ≡ size k) (lon
       let e : length xs - h ≡ h = omega (arith, both_long) in
       length-take-le (length xs - h) (drop h xs) l ∙ e ∙ half
 
+  pub last-length : length (drop h xs) ≡ size k
+  last-length = omega (arith, length-drop h xs, both_long)
+
   pub back_length : (ys : List ℕ) → length ys ≡ size k → length (ys ++ drop h xs) ≡ size (suc k)
   back_length ys e = omega (arith, length-append ys (drop h xs), length-drop h xs, both_long)
 
@@ -37,7 +40,7 @@ module _ (k h : ℕ) (xs : List ℕ) (more : 6 ≤ k) (half : h ≡ size k) (lon
     pub low-words : take h xs ≡ words k f.0
     low-words = first_part (words k f.0) (words k f.1) h (length-words k f.0 ∙ sym half) halves
 
-    last_words : drop h xs ≡ words k f.1
+    pub last_words : drop h xs ≡ words k f.1
     last_words = last_part (words k f.0) (words k f.1) h (length-words k f.0 ∙ sym half) halves
 
     pub high-words : take (length xs - h) (drop h xs) ≡ words k f.1

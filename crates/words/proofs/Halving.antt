@@ -16,7 +16,7 @@ use Rattle.words.specs.Contract.{ConstantWord, Packed, FirstBit}
 use Rattle.words.proofs.Num.{num_below, num-low, num-high, num_false, num_true, num_zero, square}
 use Rattle.words.proofs.Tables.{words-constant}
 use Rattle.words.proofs.Least.{none_found, found_in_low, found_in_high}
-use Rattle.words.proofs.Cubes.{cube_one, cube_zero, cube-dash, leaf-few, leaf-next, is_odd, is_even}
+use Rattle.words.proofs.Cubes.{cube_one, cube_zero, cube-dash, leaf-few, leaf-next}
 
 -- A law of m columns and the m - 1 after the first.
 pub by_suc : (P : ℕ → ℕ → Type 0) → ((k : ℕ) → P (suc k) k) → (m : ℕ) → 0 < m → P m (m - 1)
@@ -176,25 +176,25 @@ module _ (m o z r s : ℕ) (pos : 0 < m) where
       (λ k h e. let l : 6 ≤ k = omega arith in e ∙ sym (leaf-next k o z l)) m pos
 
   module _ (h : m ≤ 6) (e : r ≡ leaf (m - 1) (o / 2) (z / 2)) (side : s ≡ 2 ^ (2 ^ (m - 1))) where
-    pub word_by_one : o % 2 ≡ 1 → r * s ≡ leaf m o z
+    pub word_by_one : odd o ≡ true → r * s ≡ leaf m o z
     word_by_one p =
         by_suc (λ m k. m ≤ 6 → r ≡ leaf k (o / 2) (z / 2) → s ≡ 2 ^ (2 ^ k) → r * s ≡ leaf m o z)
-        (λ k h e d. word_one k o z r s h e d (is_odd o p)) m pos h e side
+        (λ k h e d. word_one k o z r s h e d p) m pos h e side
 
-    pub word_by_dash : (o % 2 ≡ 1 → ⊥) → (z % 2 ≡ 1 → ⊥) → r * s + r ≡ leaf m o z
+    pub word_by_dash : odd o ≡ false → odd z ≡ false → r * s + r ≡ leaf m o z
     word_by_dash p q =
         by_suc (λ m k. m ≤ 6 → r ≡ leaf k (o / 2) (z / 2) → s ≡ 2 ^ (2 ^ k) → r * s + r ≡ leaf m o z)
-        (λ k h e d. word-dash k o z r s h e d (is_even o p) (is_even z q)) m pos h e side
+        (λ k h e d. word-dash k o z r s h e d p q) m pos h e side
 
     pub word_fits : r * s + r < 2 ^ 64
     word_fits =
         by_suc (λ m k. m ≤ 6 → r ≡ leaf k (o / 2) (z / 2) → s ≡ 2 ^ (2 ^ k) → r * s + r < 2 ^ 64)
         (λ k h e d. word_room k o z r s h e d) m pos h e side
 
-pub word_by_zero : (m o z r : ℕ) → 0 < m → m ≤ 6 → r ≡ leaf (m - 1) (o / 2) (z / 2) → (o % 2 ≡ 1 → ⊥) → z % 2 ≡ 1 → r ≡ leaf m o z
+pub word_by_zero : (m o z r : ℕ) → 0 < m → m ≤ 6 → r ≡ leaf (m - 1) (o / 2) (z / 2) → odd o ≡ false → odd z ≡ true → r ≡ leaf m o z
 word_by_zero m o z r pos h e p q =
     by_suc (λ m k. m ≤ 6 → r ≡ leaf k (o / 2) (z / 2) → r ≡ leaf m o z)
-    (λ k h e. word_zero k o z r (2 ^ (2 ^ k)) h e refl (is_even o p) (is_odd z q)) m pos h e
+    (λ k h e. word_zero k o z r (2 ^ (2 ^ k)) h e refl p q) m pos h e
 
 module _ (m w s n : ℕ) (pos : 0 < m) (h : m ≤ 6) (side : s ≡ 2 ^ (2 ^ (m - 1))) (points : n ≡ 2 ^ (m - 1)) where
   pub first_in_low : (r : ℕ) → FirstBit (m - 1) (bit_and w (s - 1)) r → (r ≡ 0 → ⊥) → FirstBit m w (2 * r - 1)
@@ -206,7 +206,3 @@ module _ (m w s n : ℕ) (pos : 0 < m) (h : m ≤ 6) (side : s ≡ 2 ^ (2 ^ (m -
   first_in_high r t b q d =
       by_suc (λ m k. m ≤ 6 → s ≡ 2 ^ (2 ^ k) → n ≡ 2 ^ k → FirstBit k (bit_and w (s - 1)) r → FirstBit k (w / 2 ^ n) t → FirstBit m w (2 * t))
       (λ k h e c b d. bit_in_high k w s n h e c r t b q d) m pos h side points b d
-
--- What is found in fewer than seven columns is at most 64.
-pub found-most : {m w r : ℕ} → FirstBit m w r → m ≤ 6 → r ≤ 64
-found-most {m} {w} {r} b h = let p : 2 ^ m ≤ 2 ^ 6 = pow_mono h in omega (arith, b.bound)

@@ -1,9 +1,10 @@
 -- The smallest point of a table by its first word that is not 0: the words before it have no point, and its place tells the
 -- columns before the last six.
-use mathlib.Core.Path.{◌≡◌, refl, sym, ap, ap₂, ◌∙◌, subst⁻¹}
+use mathlib.Core.Path.{◌≡◌, refl, sym, ap, ap₂, ◌∙◌, subst, subst⁻¹}
 use mathlib.Core.Bool.{Bool, true, false, cond}
 use mathlib.Core.List.{List}
 use mathlib.Core.Logic.{◌⊎◌, inl, inr}
+use Rattle.std.specs.Prelude.{Option, Some, None, unwrap_or}
 use Prim.Native.Nat.{ℕ, zero, suc, ◌+◌, ◌-◌, ◌*◌, ◌/◌, ◌%◌, ◌^◌, ◌<◌, ◌≤◌}
 use native.Mathlib.Nat.{pow-suc}
 use native.Mathlib.Omega.{arith}
@@ -132,6 +133,12 @@ module _ {m i₀ r₀ k i r : ℕ} (s : Digits m i₀ r₀ k i r) where
   unfolding placed
   digits_end h = let e : k - 6 ≡ 0 = omega arith in sym (ap (λ n. placed n i r) e) ∙ s.whole
 
+-- A turn of the loop, for the point's number.
+pub digits-turn : {m i₀ r₀ k i k' : ℕ} (p : ℕ) → Digits m i₀ r₀ k i (p + 1) → k ≡ k' + 1 → 6 < k → Digits m i₀ r₀ k' (i / 2) (2 * p + i % 2 + 1)
+digits-turn {m} {i₀} {r₀} {k} {i} {k'} p s e h =
+    subst (λ n. Digits m i₀ r₀ n (i / 2) (2 * p + i % 2 + 1)) (omega arith)
+    (subst (Digits m i₀ r₀ (k - 1) (i / 2)) (omega arith) (digits-next s h))
+
 -- A table of words that are all 0 has no point.
 nothing_there : (m : ℕ) (f : Fn m) → ((k : ℕ) → k < size m → get_or (words m f) k 0 ≡ 0) → found_number (smallest m f) ≡ 0
 nothing_there m f h =
@@ -209,18 +216,16 @@ module _ (m w : ℕ) (xs : List ℕ) (s : SizedMany m xs) where
       ap (λ l. get_or l k 0) e ∙ get_d_wordwise bit_and (replicate (size m) w) xs k l b ∙
       ap (λ x. bit_and x (get_or xs k 0)) (get_or-replicate (size m) k w 0 h)
 
-  passed : {i : ℕ} → FirstMet w xs i → (f : Fn m) → words m f ≡ wordwise bit_and (replicate (size m) w) xs
-      → (k : ℕ) → k < i → get_or (words m f) k 0 ≡ 0
-  passed t f e k h =
-      let l : k < size m = omega (arith, t.place, s.long) in
-      against f e k l ∙ and_comm w (get_or xs k 0) ∙ t.before k h
+  passed : {r : Option ℕ} → FirstMet w xs r → (f : Fn m) → words m f ≡ wordwise bit_and (replicate (size m) w) xs
+      → (k : ℕ) → k < size m → k < unwrap_or r (length xs) → get_or (words m f) k 0 ≡ 0
+  passed t f e k l h = against f e k l ∙ and_comm w (get_or xs k 0) ∙ t.before k h
 
-  pub none-under : {i : ℕ} → FirstMet w xs i → i ≡ length xs → FirstUnder m w xs 0
-  none-under t n =
+  pub none-under : FirstMet w xs None → FirstUnder m w xs 0
+  none-under t =
       record {
         bound = omega arith;
         found = λ f e.
-            sym (nothing_there m f (λ k h. passed t f e k (omega (arith, s.long))));
+            sym (nothing_there m f (λ k h. let l : k < length xs = omega (arith, s.long) in passed t f e k h l));
       }
 
   pub place-fits : length xs ≤ 1024
@@ -230,26 +235,34 @@ module _ (m w : ℕ) (xs : List ℕ) (s : SizedMany m xs) where
       let p : 2 ^ (m - 6) ≤ 2 ^ 10 = pow_mono l in
       omega (arith, s.long)
 
-  module _ {i : ℕ} (r : ℕ) (t : FirstMet w xs i) (h : i ≡ length xs → ⊥) (b : FirstBit 6 (bit_and w (get_or xs i 0)) r) where
-    pub found_in_word : FoundInWord m i r
-    found_in_word =
-        let l : i < length xs = omega (arith, t.place) in
-        record {
-          more = s.more;
-          columns = s.columns;
-          place = omega (arith, s.long);
-          some = b.some (λ z. t.here l (and_comm (get_or xs i 0) w ∙ z));
-          most = b.bound;
-        }
+  module _ {i : ℕ} (t : FirstMet w xs (Some i)) where
+    -- The word that is met has a point.
+    pub met_not_empty : FirstBit 6 (bit_and w (get_or xs i 0)) 0 → ⊥
+    met_not_empty b =
+        let l : 0 < 0 = b.some (λ z. t.here (and_comm (get_or xs i 0) w ∙ z)) in
+        let z : ⊥ = omega arith in
+        z
 
-    pub first_under : {n : ℕ} → n ≡ placed (m - 6) i r → FirstUnder m w xs n
-    first_under {n} e =
-        let g : FoundInWord m i r = found_in_word in
-        let c : 6 + (m - 6) ≡ m = omega (arith, s.more) in
-        record {
-          bound = omega (arith, placed-most (m - 6) i r g.most, pow-add 2 6 (m - 6), ap (λ n. 2 ^ n) c);
-          found = λ f p.
-              e ∙
-              sym (first_word m f i r s.more g.place g.some (passed t f p)
-              (λ k y. b.found k (sym (against f p i g.place) ∙ y)));
-        }
+    module _ (r : ℕ) (b : FirstBit 6 (bit_and w (get_or xs i 0)) r) where
+      pub found_in_word : FoundInWord m i r
+      found_in_word =
+          record {
+            more = s.more;
+            columns = s.columns;
+            place = let l : i < length xs = t.place in omega (arith, s.long);
+            some = b.some (λ z. t.here (and_comm (get_or xs i 0) w ∙ z));
+            most = b.bound;
+          }
+
+      pub first_under : {n : ℕ} → n ≡ placed (m - 6) i r → FirstUnder m w xs n
+      first_under {n} e =
+          let g : FoundInWord m i r = found_in_word in
+          let c : 6 + (m - 6) ≡ m = omega (arith, s.more) in
+          record {
+            bound = omega (arith, placed-most (m - 6) i r g.most, pow-add 2 6 (m - 6), ap (λ n. 2 ^ n) c);
+            found = λ f y.
+                e ∙
+                sym (first_word m f i r s.more g.place g.some
+                (λ k h. let l : k < size m = omega (arith, g.place) in passed t f y k l h)
+                (λ k x. b.found k (sym (against f y i g.place) ∙ x)));
+          }

@@ -1,6 +1,6 @@
 -- What the functions on words and tables ask and promise. Of a slice only its length is asked; what is promised of one
 -- is promised for every function whose table it holds.
-use Rattle.std.specs.Prelude.{◌≡◌, Bool, true, List, ℕ, suc, ◌<◌, ◌≤◌, ◌^◌, length, get_or, replicate}
+use Rattle.std.specs.Prelude.{◌≡◌, Bool, true, List, Option, Some, None, IfSome, unwrap_or, ℕ, suc, ◌+◌, ◌<◌, ◌≤◌, ◌^◌, length, get_or, replicate}
 use Rattle.std.specs.Int.Bits.{bit_and}
 use Rattle.rule.specs.Func.{Fn, constant, both, either, less}
 use Rattle.rule.specs.Point.{smallest}
@@ -44,17 +44,22 @@ pub record ConstantWord (m : ℕ) (b : Bool) (r : ℕ) : Type 0 where
 pub record Packed (m low high r : ℕ) : Type 0 where
   pub word : (f g : Fn m) → low ≡ num m f → high ≡ num m g → r ≡ num (suc m) (f, g)
 
+-- The number that stands for what a search answers: 0 where nothing was found, else the point's number and 1.
+abbrev pub answer_number : Option ℕ → ℕ
+answer_number None = 0
+answer_number (Some p) = p + 1
+
 -- The smallest point of a word; a word that is not 0 has one.
 pub record FirstBit (m w r : ℕ) : Type 0 where
   pub bound : r ≤ 2 ^ m
   pub some : (w ≡ 0 → ⊥) → 0 < r
   pub found : (f : Fn m) → w ≡ num m f → r ≡ found_number (smallest m f)
 
--- The place of the first word of a list that meets a word, or the list's length.
-pub record FirstMet (w : ℕ) (xs : List ℕ) (i : ℕ) : Type 0 where
-  pub place : i ≤ length xs
-  pub before : (k : ℕ) → k < i → bit_and (get_or xs k 0) w ≡ 0
-  pub here : i < length xs → bit_and (get_or xs i 0) w ≡ 0 → ⊥
+-- The place of the first word of a list that meets a word, if one does.
+pub record FirstMet (w : ℕ) (xs : List ℕ) (r : Option ℕ) : Type 0 where
+  pub place : IfSome r (λ i. i < length xs)
+  pub before : (k : ℕ) → k < unwrap_or r (length xs) → bit_and (get_or xs k 0) w ≡ 0
+  pub here : IfSome r (λ i. bit_and (get_or xs i 0) w ≡ 0 → ⊥)
 
 -- A point found in a word of a table of six columns or more: the place of the word, and the point's number there and 1.
 pub record FoundInWord (m i r : ℕ) : Type 0 where

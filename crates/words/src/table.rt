@@ -12,25 +12,18 @@ pub fn fill(s: &mut [u64], columns: u16, b: bool)
     requires { length s.old ≡ size columns }
     ensures { s.new ≡ words columns (constant columns b) }
 {
-    let w = word::constant_word(columns, b);
-    let mut i = 0;
-    while i < s.len() {
-        s[i] = w;
-        i += 1;
-    }
+    s.fill(word::constant_word(columns, b));
 }
 
 // Takes the second table from the first.
+// Kept: three loops of one line here and below. One loop with a closure would have to promise something of each call, and each
+// caller to gather its table from that.
 pub fn less_into(a: &mut [u64], b: &[u64])
     requires { length a.old ≡ length b.now }
     ensures { Lessened a.old b.now a.new }
 {
-    let mut i = 0;
-    while i < b.len() {
-        let x = a[i];
-        let y = b[i];
-        a[i] = x ^ (x & y);
-        i += 1;
+    for (i, x) in a.iter_mut().enumerate() {
+        *x = *x ^ (*x & b[i]);
     }
 }
 
@@ -39,12 +32,8 @@ pub fn left_into(a: &mut [u64], b: &[u64])
     requires { length a.old ≡ length b.now }
     ensures { Lessened b.now a.old a.new }
 {
-    let mut i = 0;
-    while i < b.len() {
-        let x = a[i];
-        let y = b[i];
-        a[i] = y ^ (y & x);
-        i += 1;
+    for (i, x) in a.iter_mut().enumerate() {
+        *x = b[i] ^ (b[i] & *x);
     }
 }
 
@@ -54,26 +43,16 @@ pub fn outside(s: &mut [u64], columns: u16)
     ensures { Outside columns s.old s.new }
 {
     let w = word::constant_word(columns, true);
-    let mut i = 0;
-    while i < s.len() {
-        let x = s[i];
-        s[i] = w ^ (w & x);
-        i += 1;
+    for x in s.iter_mut() {
+        *x = w ^ (w & *x);
     }
 }
 
-// The place of the first word of a table that meets a word: the table's length where none does.
-pub fn first_met(s: &[u64], w: u64) -> usize
+// The place of the first word of a table that meets a word.
+pub fn first_met(s: &[u64], w: u64) -> Option<usize>
     ensures { FirstMet w s.now result }
 {
-    let mut i = 0;
-    while i < s.len() {
-        if (s[i] & w) != 0 {
-            return i;
-        }
-        i += 1;
-    }
-    i
+    s.iter().position(|x| (*x & w) != 0)
 }
 
 // Adds a word to each word of what is covered, and what of it was covered before to what is covered twice.
@@ -82,11 +61,8 @@ pub fn add_word(covered: &mut [u64], twice: &mut [u64], w: u64)
     ensures once { covered.new ≡ wordwise bit_or (replicate (length covered.old) w) covered.old }
     ensures again { twice.new ≡ wordwise bit_or twice.old (wordwise bit_and (replicate (length covered.old) w) covered.old) }
 {
-    let mut i = 0;
-    while i < covered.len() {
-        let x = covered[i];
-        twice[i] = twice[i] | (w & x);
-        covered[i] = w | x;
-        i += 1;
+    for (i, x) in covered.iter_mut().enumerate() {
+        twice[i] |= w & *x;
+        *x |= w;
     }
 }

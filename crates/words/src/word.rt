@@ -1,7 +1,9 @@
 // Single words: at most six columns, the first of them splitting a word into a lower and an upper half.
 ghost use Rattle.std.specs.Prelude.{◌≡◌, ◌≤◌, ◌<◌, ◌^◌};
 ghost use Rattle.words.specs.Word.{leaf};
-ghost use Rattle.words.specs.Contract.{ConstantWord, Packed, FirstBit};
+ghost use Rattle.words.specs.Contract.{answer_number, ConstantWord, Packed, FirstBit};
+
+use crate::cube::Halves;
 
 // The number of points of at most five columns.
 fn points(columns: u16) -> u16
@@ -30,7 +32,7 @@ pub fn constant_word(columns: u16, b: bool) -> u64
     if columns < 6 {
         return side(columns) - 1;
     }
-    18446744073709551615
+    u64::MAX
 }
 
 // The word of one column more, made of the words of its halves.
@@ -43,42 +45,42 @@ pub fn pack(low: u64, high: u64, columns: u16) -> u64
 }
 
 // The word of the last six columns of a cube, or of all its columns where they are fewer.
-pub fn cube_word(columns: u16, ones: u16, zeros: u16) -> u64
-    ensures { result ≡ leaf columns ones zeros }
+pub fn cube_word(columns: u16, cube: Halves) -> u64
+    ensures { result ≡ leaf columns cube.ones cube.zeros }
 {
     if columns == 0 {
         return 1;
     }
-    let rest = cube_word(columns - 1, ones / 2, zeros / 2);
+    let rest = cube_word(columns - 1, cube.rest());
     if 6 < columns {
         return rest;
     }
-    if ones % 2 == 1 {
+    if cube.first_is_one() {
         return rest * side(columns - 1);
     }
-    if zeros % 2 == 1 {
+    if cube.first_is_zero() {
         return rest;
     }
     rest * side(columns - 1) + rest
 }
 
-// The smallest point of a word's function: 0 where there is none, else its number and 1.
-pub fn first_bit(w: u64, columns: u16) -> u32
+// The smallest point of a word's function.
+pub fn first_bit(w: u64, columns: u16) -> Option<u32>
     requires { columns ≤ 6 }
-    ensures { FirstBit columns w result }
+    ensures { FirstBit columns w (answer_number result) }
 {
     if w == 0 {
-        return 0;
+        return None;
     }
     if columns == 0 {
-        return 1;
+        return Some(0);
     }
     let n = points(columns - 1);
     let low = w & (side(columns - 1) - 1);
     let high = w >> n;
-    let r = first_bit(low, columns - 1);
-    if r != 0 {
-        return 2 * r - 1;
+    if let Some(p) = first_bit(low, columns - 1) {
+        return Some(2 * p);
     }
-    2 * first_bit(high, columns - 1)
+    let p = first_bit(high, columns - 1)?;
+    Some(2 * p + 1)
 }

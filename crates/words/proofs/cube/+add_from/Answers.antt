@@ -25,10 +25,10 @@ shape_of-twice-then-all_dashes t c = c.add_word.auto.twice
 
 pub returns-then-all_dashes : goal.returns-then-all_dashes
 returns-then-all_dashes t c =
-    added_plain c.args.columns c.args.ones c.args.zeros c.args.w c.args.covered.now c.args.twice.now c.add_word.new.covered c.add_word.new.twice c.requires (sym c.all_dashes.ensures ∙ c.if-all_dashes.true) c.add_word.ensures.once c.add_word.ensures.again
+    added_plain c.args.columns c.args.cube.ones c.args.cube.zeros c.args.w c.args.covered.now c.args.twice.now c.add_word.new.covered c.add_word.new.twice c.requires (sym c.all_dashes.ensures ∙ c.if-all_dashes.true) c.add_word.ensures.once c.add_word.ensures.again
 
-pub slice_bounds-add_from-count-then-ones-eq1 : goal.slice_bounds-add_from-count-then-ones-eq1
-slice_bounds-add_from-count-then-ones-eq1 t c =
+pub slice_bounds-add_from-count-then-first_is_one : goal.slice_bounds-add_from-count-then-first_is_one
+slice_bounds-add_from-count-then-first_is_one t c =
     omega (arith, c.requires.first, c.requires.second)
 
 pub slice_bounds-add_from-start-2 : goal.slice_bounds-add_from-start-2
@@ -37,26 +37,26 @@ slice_bounds-add_from-start-2 t c =
 
 pub overflow_sub-columns : goal.overflow_sub-columns
 overflow_sub-columns t c =
-    omega (arith, not_plain c.args.columns c.args.ones c.args.zeros (sym c.all_dashes.ensures ∙ c.if-all_dashes.false))
+    omega (arith, not_plain c.args.columns c.args.cube.ones c.args.cube.zeros (sym c.all_dashes.ensures ∙ c.if-all_dashes.false))
 
 pub add_from-requires : goal.add_from-requires
 add_from-requires t c =
-    let more = (not_plain c.args.columns c.args.ones c.args.zeros (sym c.all_dashes.ensures ∙ c.if-all_dashes.false)) in
-    (omega (arith, c.decreases), add-high c.args.columns c.args.ones c.args.zeros c.args.w c.args.covered.now c.args.twice.now more c.requires)
+    let more = (not_plain c.args.columns c.args.cube.ones c.args.cube.zeros (sym c.all_dashes.ensures ∙ c.if-all_dashes.false)) in
+    (omega (arith, c.decreases), add-high c.args.columns c.args.cube.ones c.args.cube.zeros c.args.w c.args.covered.now c.args.twice.now more c.requires c.rest-rest.ensures.ones c.rest-rest.ensures.zeros)
 
-pub shape_of-covered-then-ones-eq1 : goal.shape_of-covered-then-ones-eq1
-shape_of-covered-then-ones-eq1 t c =
+pub shape_of-covered-then-first_is_one : goal.shape_of-covered-then-first_is_one
+shape_of-covered-then-first_is_one t c =
     let xs = c.args.covered.now in
     same_len_mid (length c.args.covered.now / 2) (length xs - (length c.args.covered.now / 2)) xs c.add_from.new.covered c.add_from.auto.covered
 
-pub shape_of-twice-then-ones-eq1 : goal.shape_of-twice-then-ones-eq1
-shape_of-twice-then-ones-eq1 t c =
+pub shape_of-twice-then-first_is_one : goal.shape_of-twice-then-first_is_one
+shape_of-twice-then-first_is_one t c =
     let xs = c.args.twice.now in
     same_len_mid (length c.args.covered.now / 2) (length xs - (length c.args.covered.now / 2)) xs c.add_from.new.twice c.add_from.auto.twice
 
-pub returns-then-ones-eq1 : goal.returns-then-ones-eq1
-returns-then-ones-eq1 t c =
-    add_one c.args.columns c.args.ones c.args.zeros c.args.w c.args.covered.now c.args.twice.now (not_plain c.args.columns c.args.ones c.args.zeros (sym c.all_dashes.ensures ∙ c.if-all_dashes.false)) c.requires c.if-ones-eq1.true c.add_from.new.covered c.add_from.new.twice c.add_from.ensures
+pub returns-then-first_is_one : goal.returns-then-first_is_one
+returns-then-first_is_one t c =
+    add_one c.args.columns c.args.cube.ones c.args.cube.zeros c.args.w c.args.covered.now c.args.twice.now (not_plain c.args.columns c.args.cube.ones c.args.cube.zeros (sym c.all_dashes.ensures ∙ c.if-all_dashes.false)) c.requires c.rest-rest.ensures.ones c.rest-rest.ensures.zeros (sym c.first_is_one.ensures ∙ c.if-first_is_one.true) c.add_from.new.covered c.add_from.new.twice c.add_from.ensures
 
 pub slice_bounds-add_from-end-3 : goal.slice_bounds-add_from-end-3
 slice_bounds-add_from-end-3 t c =
@@ -72,24 +72,24 @@ slice_bounds-add_from-end-5 t c =
 
 pub overflow_sub-columns-2 : goal.overflow_sub-columns-2
 overflow_sub-columns-2 t c =
-    omega (arith, not_plain c.args.columns c.args.ones c.args.zeros (sym c.all_dashes.ensures ∙ c.if-all_dashes.false))
+    omega (arith, not_plain c.args.columns c.args.cube.ones c.args.cube.zeros (sym c.all_dashes.ensures ∙ c.if-all_dashes.false))
 
 pub add_from-requires-2 : goal.add_from-requires-2
 add_from-requires-2 t c =
-    let more = (not_plain c.args.columns c.args.ones c.args.zeros (sym c.all_dashes.ensures ∙ c.if-all_dashes.false)) in
-    (omega (arith, c.decreases), add_low c.args.columns c.args.ones c.args.zeros c.args.w c.args.covered.now c.args.twice.now more c.requires)
+    let more = (not_plain c.args.columns c.args.cube.ones c.args.cube.zeros (sym c.all_dashes.ensures ∙ c.if-all_dashes.false)) in
+    (omega (arith, c.decreases), add_low c.args.columns c.args.cube.ones c.args.cube.zeros c.args.w c.args.covered.now c.args.twice.now more c.requires c.rest-rest.ensures.ones c.rest-rest.ensures.zeros)
 
-pub shape_of-covered-then-zeros-eq1 : goal.shape_of-covered-then-zeros-eq1
-shape_of-covered-then-zeros-eq1 t c =
+pub shape_of-covered-then-first_is_zero : goal.shape_of-covered-then-first_is_zero
+shape_of-covered-then-first_is_zero t c =
     length_front c.args.covered.now c.add_from-2.new.covered (length c.args.covered.now / 2) c.add_from-2.auto.covered
 
-pub shape_of-twice-then-zeros-eq1 : goal.shape_of-twice-then-zeros-eq1
-shape_of-twice-then-zeros-eq1 t c =
+pub shape_of-twice-then-first_is_zero : goal.shape_of-twice-then-first_is_zero
+shape_of-twice-then-first_is_zero t c =
     length_front c.args.twice.now c.add_from-2.new.twice (length c.args.covered.now / 2) c.add_from-2.auto.twice
 
-pub returns-then-zeros-eq1 : goal.returns-then-zeros-eq1
-returns-then-zeros-eq1 t c =
-    add_zero c.args.columns c.args.ones c.args.zeros c.args.w c.args.covered.now c.args.twice.now (not_plain c.args.columns c.args.ones c.args.zeros (sym c.all_dashes.ensures ∙ c.if-all_dashes.false)) c.requires c.add_from-2.new.covered c.add_from-2.new.twice c.add_from-2.ensures c.if-ones-eq1.false c.if-zeros-eq1.true
+pub returns-then-first_is_zero : goal.returns-then-first_is_zero
+returns-then-first_is_zero t c =
+    add_zero c.args.columns c.args.cube.ones c.args.cube.zeros c.args.w c.args.covered.now c.args.twice.now (not_plain c.args.columns c.args.cube.ones c.args.cube.zeros (sym c.all_dashes.ensures ∙ c.if-all_dashes.false)) c.requires c.rest-rest.ensures.ones c.rest-rest.ensures.zeros c.add_from-2.new.covered c.add_from-2.new.twice c.add_from-2.ensures (sym c.first_is_one.ensures ∙ c.if-first_is_one.false) (sym c.first_is_zero.ensures ∙ c.if-first_is_zero.true)
 
 pub slice_bounds-add_from-count-2 : goal.slice_bounds-add_from-count-2
 slice_bounds-add_from-count-2 t c =
@@ -105,13 +105,13 @@ slice_bounds-add_from-count-3 t c =
 
 pub overflow_sub-columns-3 : goal.overflow_sub-columns-3
 overflow_sub-columns-3 t c =
-    omega (arith, not_plain c.args.columns c.args.ones c.args.zeros (sym c.all_dashes.ensures ∙ c.if-all_dashes.false))
+    omega (arith, not_plain c.args.columns c.args.cube.ones c.args.cube.zeros (sym c.all_dashes.ensures ∙ c.if-all_dashes.false))
 
 pub add_from-requires-3 : goal.add_from-requires-3
 add_from-requires-3 t c =
-    let more = (not_plain c.args.columns c.args.ones c.args.zeros (sym c.all_dashes.ensures ∙ c.if-all_dashes.false)) in (
+    let more = (not_plain c.args.columns c.args.cube.ones c.args.cube.zeros (sym c.all_dashes.ensures ∙ c.if-all_dashes.false)) in (
       omega (arith, c.decreases),
-      add-high-after c.args.columns c.args.ones c.args.zeros c.args.w c.args.covered.now c.args.twice.now more c.requires c.add_from-2.new.covered c.add_from-2.new.twice c.add_from-2.ensures c.add_from-2.auto.covered c.add_from-2.auto.twice,
+      add-high-after c.args.columns c.args.cube.ones c.args.cube.zeros c.args.w c.args.covered.now c.args.twice.now more c.requires c.rest-rest.ensures.ones c.rest-rest.ensures.zeros c.add_from-2.new.covered c.add_from-2.new.twice c.add_from-2.ensures c.add_from-2.auto.covered c.add_from-2.auto.twice,
     )
 
 pub shape_of-covered : goal.shape_of-covered
@@ -126,5 +126,5 @@ shape_of-twice t c =
 
 pub returns : goal.returns
 returns t c =
-    add-dash c.args.columns c.args.ones c.args.zeros c.args.w c.args.covered.now c.args.twice.now (not_plain c.args.columns c.args.ones c.args.zeros (sym c.all_dashes.ensures ∙ c.if-all_dashes.false)) c.requires c.add_from-2.new.covered c.add_from-2.new.twice c.add_from-2.ensures c.add_from-2.auto.covered c.add_from-2.auto.twice
-    c.if-ones-eq1.false c.if-zeros-eq1.false c.add_from-3.new.covered c.add_from-3.new.twice c.add_from-3.ensures
+    add-dash c.args.columns c.args.cube.ones c.args.cube.zeros c.args.w c.args.covered.now c.args.twice.now (not_plain c.args.columns c.args.cube.ones c.args.cube.zeros (sym c.all_dashes.ensures ∙ c.if-all_dashes.false)) c.requires c.rest-rest.ensures.ones c.rest-rest.ensures.zeros c.add_from-2.new.covered c.add_from-2.new.twice c.add_from-2.ensures c.add_from-2.auto.covered c.add_from-2.auto.twice
+    (sym c.first_is_one.ensures ∙ c.if-first_is_one.false) (sym c.first_is_zero.ensures ∙ c.if-first_is_zero.false) c.add_from-3.new.covered c.add_from-3.new.twice c.add_from-3.ensures

@@ -4,16 +4,16 @@ use Rattle.words.proofs.Cubes.{plain-few, before-some, zeros_decide, ones_decide
 use Rattle.words.proofs.cube.all_dashes.Goals as goal
 
 pub returns-then-columns-le6 : goal.returns-then-columns-le6
-returns-then-columns-le6 c = sym (plain-few c.args.columns c.args.ones c.args.zeros c.if-columns-le6.true)
+returns-then-columns-le6 c = sym (plain-few c.args.columns c.args.cube.ones c.args.cube.zeros c.if-columns-le6.true)
 
 pub overflow_sub-before-2 : goal.overflow_sub-before-2
 overflow_sub-before-2 c =
-    before-some c.args.columns c.args.ones c.args.zeros c.if-columns-le6.false c.requires
+    before-some c.args.columns c.args.cube.ones c.args.cube.zeros c.if-columns-le6.false c.requires
 
-pub returns-then-ones-before-eq0 : goal.returns-then-ones-before-eq0
-returns-then-ones-before-eq0 c =
-    zeros_decide c.args.columns c.args.ones c.args.zeros c.if-columns-le6.false c.requires c.if-ones-before-eq0.true
+pub returns-then-cube-before-eq0 : goal.returns-then-cube-before-eq0
+returns-then-cube-before-eq0 c =
+    zeros_decide c.args.columns c.args.cube.ones c.args.cube.zeros c.if-columns-le6.false c.requires c.if-cube-before-eq0.true
 
-pub returns-else-ones-before-eq0 : goal.returns-else-ones-before-eq0
-returns-else-ones-before-eq0 c =
-    ones_decide c.args.columns c.args.ones c.args.zeros c.if-columns-le6.false c.requires c.if-ones-before-eq0.false
+pub returns-else-cube-before-eq0 : goal.returns-else-cube-before-eq0
+returns-else-cube-before-eq0 c =
+    ones_decide c.args.columns c.args.cube.ones c.args.cube.zeros c.if-columns-le6.false c.requires c.if-cube-before-eq0.false

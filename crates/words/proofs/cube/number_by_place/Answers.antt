@@ -1,20 +1,24 @@
--- `words::cube::number_by_place` meets its contract. The loop's invariant: the digits that are left lead from `r` to the whole
--- number (`Digits`). The measure is the columns left.
+-- `words::cube::number_by_place` meets its contract. The loop's invariant: the digits that are left lead from `p` to the whole
+-- number (`Digits`).
+use mathlib.Core.Path.{subst}
+use Prim.Native.Nat.{◌+◌}
 use native.Mathlib.Omega.{arith}
-use Rattle.words.proofs.Placing.{digits-all, digits_fit, digits-next, digits_end}
+use Rattle.words.proofs.Placing.{Digits, digits-all, digits_fit, digits-turn, digits_end}
 use Rattle.words.proofs.cube.number_by_place.Goals as goal
 
-pub loop-k-init : goal.loop-k-init
-loop-k-init c = digits-all c.requires
+pub loop-init : goal.loop-init
+loop-init c =
+    let a = c.args in
+    subst (λ k. Digits a.columns a.place (a.found + 1) k a.place (a.found + 1)) (omega arith) (digits-all c.requires)
 
-pub overflow_mul-r : goal.overflow_mul-r
-overflow_mul-r c = omega (arith, digits_fit c.loop-k.invariant (omega arith))
+pub overflow_mul-p : goal.overflow_mul-p
+overflow_mul-p c = omega (arith, digits_fit c.loop.invariant (omega arith))
 
-pub overflow_add-r : goal.overflow_add-r
-overflow_add-r c = omega (arith, digits_fit c.loop-k.invariant (omega arith))
+pub overflow_add-p : goal.overflow_add-p
+overflow_add-p c = omega (arith, digits_fit c.loop.invariant (omega arith))
 
-pub loop-k-preserved : goal.loop-k-preserved
-loop-k-preserved c = digits-next c.loop-k.invariant (omega arith)
+pub loop-preserved : goal.loop-preserved
+loop-preserved c = digits-turn c.loop.p c.loop.invariant (omega arith) (omega arith)
 
 pub returns : goal.returns
-returns c = digits_end c.loop-k.invariant (omega arith)
+returns c = digits_end c.loop.invariant (omega arith)

@@ -1,8 +1,8 @@
 -- `words::table::add_word` meets its contract. The loop's invariant: each word before `i` of both tables has been joined, the
--- rest is as it was. The measure is what is left of the length.
-use mathlib.Core.Path.{ap, ap₂}
+-- rest is as it was.
+use mathlib.Core.Path.{ap, ap₂, ◌∙◌}
 use native.Mathlib.Omega.{arith}
-use lib.Bits.{bit_and, bit_or}
+use lib.Bits.{bit_and, bit_or, or_comm}
 use Rattle.words.proofs.Loops.{so_far_none, so_far_read, so_far_next}
 use Rattle.words.proofs.Flat.{added_once, added_again}
 use Rattle.words.proofs.table.add_word.Goals as goal
@@ -15,7 +15,7 @@ loop-i-preserved c =
     let w = c.args.w in
     let x = so_far_read c.loop-i.invariant.0 (omega arith) in
     let y = so_far_read c.loop-i.invariant.1 (omega arith) in (
-      so_far_next c.loop-i.invariant.0 (omega arith) (ap (bit_or w) x),
+      so_far_next c.loop-i.invariant.0 (omega arith) (or_comm _ w ∙ ap (bit_or w) x),
       so_far_next c.loop-i.invariant.1 (omega arith) (ap₂ (λ u v. bit_or u (bit_and w v)) y x),
     )
 

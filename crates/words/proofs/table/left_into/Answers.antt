@@ -1,5 +1,5 @@
 -- `words::table::left_into` meets its contract. The loop's invariant: each word before `i` has been joined with the other
--- table's, the rest is as it was. The measure is what is left of the length.
+-- table's, the rest is as it was.
 use mathlib.Core.Path.{ap}
 use native.Mathlib.Omega.{arith}
 use lib.ListN.{get_or}
