@@ -16,8 +16,7 @@ use Rattle.rule.proofs.Nodes.{idle-adds_the_half's}
 use Rattle.graph.specs.Table.{Table, table_of, half_of, fn_of, refers, functions, node_fn, Agree}
 use Rattle.graph.specs.Sound.{Sound, Sized}
 use Rattle.graph.specs.Built.{Built, Lacking, MadeOf}
-use Rattle.graph.specs.declared.build.Made.{Made}
-use Rattle.graph.specs.declared.build.Made.TheVariants.{Done, Full}
+use Rattle.std.specs.Prelude.{Option, Some, None}
 use Rattle.graph.proofs.Tests.{refers-is, refers_wider}
 use Rattle.graph.proofs.Numbers.{AtLevel, idle_or_at}
 use Rattle.graph.proofs.Agree.{agree-refers, agree_through, agree_fn}
@@ -86,11 +85,11 @@ lacking_idle {n} {c} {v} {l} {h} m f b =
       lacks = subst⁻¹ (λ S. length v < length S) (twin_adds (functions n (table_of v l h) c) m f) b.lacks;
     }
 
-pub made_idle : (n : ℕ) (c : ℕ) (v : List ℕ) (l : List ℕ) (h : List ℕ) (v' : List ℕ) (l' : List ℕ) (h' : List ℕ) (k : ℕ) (m : ℕ) (f : Fn m) (r : Made) →
-    MadeOf n c v l h v' l' h' (k + 1) m f r → MadeOf n c v l h v' l' h' k (suc m) (f, f) r
+pub made_idle : (n : ℕ) (c : ℕ) (v : List ℕ) (l : List ℕ) (h : List ℕ) (v' : List ℕ) (l' : List ℕ) (h' : List ℕ) (k : ℕ) (m : ℕ) (f : Fn m) (c' : ℕ) (r : Option ℕ) →
+    MadeOf n c v l h v' l' h' (k + 1) m f c' r → MadeOf n c v l h v' l' h' k (suc m) (f, f) c' r
 unfolding MadeOf
-made_idle n c v l h v' l' h' k m f (Done x c') b = built-idle m f b
-made_idle n c v l h v' l' h' k m f Full b = lacking_idle m f b
+made_idle n c v l h v' l' h' k m f c' (Some x) b = built-idle m f b
+made_idle n c v l h v' l' h' k m f c' None b = lacking_idle m f b
 
 -- Adding two lists of functions, and then both again with some more, is adding them once with the more.
 add_twice : (S : List Tree) (a : List Tree) (b : List Tree) (o : List Tree) → add_all (add_all (add_all S a) b) (a ++ b ++ o) ≡ add_all S (a ++ b ++ o)

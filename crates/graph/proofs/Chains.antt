@@ -9,13 +9,13 @@ use native.Mathlib.Omega.{arith}
 use lib.Dec.{eqb}
 use lib.ListN.{get_or, set, replicate, length-set, length-replicate, get_or-replicate}
 use lib.Seq.{get_or-set_same, get_or-set_other}
-use borrow.Author.Tests.{eqb-true, eqb-false, eq-eqb, ne_eqb}
+use borrow.Author.Tests.{eqb-true, eqb-false}
 use Rattle.rule.proofs.Bools.{and_left, and_right, which}
 use Rattle.graph.specs.Table.{Table, table_of, is_record, number_at}
 use Rattle.graph.specs.Sound.{Sized}
 use Rattle.graph.proofs.Tests.{record_is}
 use Rattle.graph.proofs.Reading.{not_found-here}
-use Rattle.graph.specs.Chain.{bucket_of, bucket_at, latest, Chained, Linkable, Testable}
+use Rattle.graph.specs.Chain.{bucket_of, bucket_at, latest, Chained, Linkable}
 
 module _ (T : Table) (v l h : ℕ) where
   -- An equal record is in the same bucket.
@@ -39,20 +39,6 @@ module _ (T : Table) (v l h : ℕ) where
       go true e r f ih = sym (ap (λ q. cond q (j + 2) (number_at T j v l h)) f)
       go false e true f ih = absurd (eqb-false (bucket_at T j) (bucket_of v l h) e (same_bucket j f))
       go false e false f ih = ih
-
--- Whether a record is the one, test by test.
-module _ (T : Table) (j v l h : ℕ) where
-  pub other_level : (T.level j ≡ v → ⊥) → false ≡ is_record T j v l h
-  unfolding is_record
-  other_level e = rw (ne_eqb (T.level j) v e)
-
-  pub other_low : T.level j ≡ v → (T.low j ≡ l → ⊥) → false ≡ is_record T j v l h
-  unfolding is_record
-  other_low a e = rw (eq-eqb (T.level j) v a) (rw (ne_eqb (T.low j) l e))
-
-  pub high_decides : T.level j ≡ v → T.low j ≡ l → eqb (T.high j) h ≡ is_record T j v l h
-  unfolding is_record
-  high_decides a e = rw (eq-eqb (T.level j) v a) (rw (eq-eqb (T.low j) l e))
 
 -- The latest record of a bucket is one of the records, and in the bucket.
 pub latest-is : (T : Table) (b i j : ℕ) → latest T b i ≡ suc j → (j < i) × (bucket_at T j ≡ b)
@@ -173,17 +159,13 @@ chained_by i v l h last prev p b e =
     (chain_more i v l h last prev p (get_or last (bucket_at (table_of v l h) i) 0) refl)
 
 -- No record is on a chain yet.
-pub no_chains : (c : ℕ) (v l h : List ℕ) → Sized c v l h → Testable c v l h (replicate 1024 0) (replicate 4096 0)
+pub no_chains : (c : ℕ) (v l h : List ℕ) → Sized c v l h → Chained 0 v l h (replicate 1024 0) (replicate 4096 0)
 unfolding latest
 no_chains c v l h s =
     record {
-      sized = s;
-      chained =
-          record {
-            sized = record { count = omega arith; low = s.low; high = s.high; room = s.room };
-            buckets = length-replicate {A = ℕ} 1024 0;
-            places = length-replicate {A = ℕ} 4096 0;
-            heads = λ b u. get_or-replicate {A = ℕ} 1024 b 0 0 u;
-            links = λ j u. absurd (not-suc-le-zero u);
-          };
+      sized = record { count = omega arith; low = s.low; high = s.high; room = s.room };
+      buckets = length-replicate {A = ℕ} 1024 0;
+      places = length-replicate {A = ℕ} 4096 0;
+      heads = λ b u. get_or-replicate {A = ℕ} 1024 b 0 0 u;
+      links = λ j u. absurd (not-suc-le-zero u);
     }

@@ -1,12 +1,12 @@
--- Slices whose elements from a place on are zero: their length, what stands before the place, and how one more element is
--- cleared.
+-- Slices whose elements from a place on are zero: their length, what stands before the place, and what a fill leaves.
 use mathlib.Core.Path.{◌≡◌, sym, ap, ◌∙◌}
-use mathlib.Core.List.{List, [], ◌∷◌, ◌++◌, append_assoc, append-nil}
-use Prim.Native.Nat.{ℕ, suc, ◌+◌, ◌-◌, ◌<◌, ◌≤◌}
-use native.Mathlib.Numerals.{add-one}
+use mathlib.Core.List.{List, [], ◌++◌, append-nil}
+use Prim.Native.Nat.{ℕ, ◌-◌, ◌<◌, ◌≤◌}
 use native.Mathlib.Omega.{arith}
-use lib.ListN.{length, get_or, take, set, replicate, length-append, length-take, length-set, length-replicate}
-use lib.Seq.{length-take-le, take_all, take_at, take-suc-set, get_or-take, ext_get_or}
+use lib.ListN.{length, get_or, take, drop, replicate, length-append, length-take, length-drop, length-replicate}
+use Rattle.std.proofs.lemmas.List.{drop_all}
+use borrow.Rule.Slice.PartMut.{put_mid}
+use lib.Seq.{length-take-le, take_at, get_or-take, ext_get_or}
 use Rattle.graph.specs.Entry.{cleared}
 
 -- A cleared slice is told by what stands before the place, and by the length.
@@ -18,13 +18,6 @@ module _ (c : ℕ) (s : List ℕ) where
   pub cleared-length : length (cleared c s) ≡ length s
   unfolding cleared
   cleared-length = simp (length-append, length-take, length-replicate) (omega arith)
-
-  -- Nothing is left to clear.
-  pub cleared-all : length s ≤ c → cleared c s ≡ s
-  unfolding cleared
-  cleared-all h =
-      let none : length s - c ≡ 0 = omega arith in
-      ap (λ (k : ℕ). take c s ++ replicate k 0) none ∙ append-nil (take c s) ∙ take_all c s h
 
   module _ (h : c ≤ length s) where
     -- What stands before the place is kept.
@@ -50,13 +43,10 @@ cleared_alike c s t e a = told c s t (ext_get_or 0 (take c s) (take c t) same_le
         let u : j < c = omega (arith, length-take c s) in
         get_or-take c s j 0 u ∙ a j u ∙ sym (get_or-take c t j 0 u)
 
--- One element more.
-pub cleared_more : (s : List ℕ) (i : ℕ) → i < length s → cleared (i + 1) (set s i 0) ≡ cleared i s
+-- A slice whose elements from a place on are filled with zeros.
+pub filled-cleared : (c : ℕ) (s z : List ℕ) → z ≡ replicate (length (take (length s - c) (drop c s))) 0 → put_mid c (length s - c) s z ≡ cleared c s
 unfolding cleared
-cleared_more s i h =
-    let left : length s - i ≡ suc (length s - suc i) = omega arith in
-    ap (λ k. take k (set s i 0) ++ replicate (length (set s i 0) - k) 0) (add-one i) ∙
-    ap (λ k. take (suc i) (set s i 0) ++ replicate (k - suc i) 0) (length-set s i 0) ∙
-    ap (λ t. t ++ replicate (length s - suc i) 0) (take-suc-set s i 0 h) ∙
-    append_assoc (take i s) (0 ∷ []) (replicate (length s - suc i) 0) ∙
-    ap (λ (k : ℕ). take i s ++ replicate k 0) (sym left)
+filled-cleared c s z e =
+    let long : length (take (length s - c) (drop c s)) ≡ length s - c = simp (length-take, length-drop) (omega arith) in
+    let rest : drop (length s - c) (drop c s) ≡ [] = drop_all (length s - c) (drop c s) (simp length-drop (omega arith)) in
+    (λ i. take c s ++ ((e ∙ ap (λ (k : ℕ). replicate k 0) long) i ++ rest i)) ∙ ap (λ t. take c s ++ t) (append-nil (replicate (length s - c) 0))

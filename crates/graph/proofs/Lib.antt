@@ -6,6 +6,7 @@ pub mod Columns
 pub mod Terminal
 pub mod Agree
 pub mod Records
+pub mod Lending
 pub mod Building
 pub mod Making
 pub mod Added
@@ -14,6 +15,7 @@ pub mod Applying
 pub mod Refusals
 pub mod Clearing
 pub mod Entries
+pub mod Operating
 pub mod Values
 pub mod Roots
 pub mod Runs

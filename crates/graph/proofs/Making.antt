@@ -1,6 +1,6 @@
 -- Making a node, one law for each way out: its halves are equal, it is there, there is no room, it is put at the end.
 use mathlib.Core.Path.{◌≡◌, refl, sym, ap, ◌∙◌, subst⁻¹}
-use mathlib.Core.Bool.{false}
+use mathlib.Core.Bool.{true, false, true≢false}
 use mathlib.Core.List.{List, [], ◌∷◌, ◌++◌}
 use Prim.Native.Nat.{ℕ, suc, ◌+◌, ◌<◌}
 use native.Mathlib.Numerals.{add-one}
@@ -14,7 +14,11 @@ use Rattle.rule.proofs.Trees.{same_equal}
 use Rattle.rule.proofs.Sets.{absent_goes_last}
 use Rattle.rule.proofs.Nodes.{halves_present_adds_itself}
 use Rattle.graph.specs.Table.{Table, table_of, fn_of, number_at, functions, node_fn, Agree}
-use Rattle.graph.specs.Built.{Halves, Built, Lacking}
+use Rattle.std.specs.Prelude.{Option, Some, None}
+use Rattle.std.specs.Option.{is_some}
+use Rattle.rule.specs.Refusal.{some_number}
+use Rattle.rule.proofs.Refusals.{some_number_some, some_number_none}
+use Rattle.graph.specs.Built.{Halves, Built, Lacking, MadeOf}
 use Rattle.graph.proofs.Tests.{IsRecord, refers_wider, record_refers, number-found}
 use Rattle.graph.proofs.Numbers.{equal_numbers}
 use Rattle.graph.proofs.Records.{functions-length, nodes_in_use, record_fn, absent, put-good, put_fn, put-functions, put-refers}
@@ -30,15 +34,22 @@ module _ (n : ℕ) (c : ℕ) (v : List ℕ) (l : List ℕ) (h : List ℕ) (k : �
       (twin (table_of v l h) c k m a p.first ∙ (λ i. (fn_of (table_of v l h) (k + 1) m a, fn_of (table_of v l h) (k + 1) m (q i))))
 
   -- The look-up found it.
-  pub made_found : (x : ℕ) → x ≡ number_at (table_of v l h) c k a b → (x ≡ 0 → ⊥) → Built n c v l h v l h k (suc m) (node_fn (table_of v l h) k m a b) x c
+  found_built : (x : ℕ) → x ≡ number_at (table_of v l h) c k a b → (x ≡ 0 → ⊥) → Built n c v l h v l h k (suc m) (node_fn (table_of v l h) k m a b) x c
   unfolding node_fn
-  made_found x q z =
+  found_built x q z =
       let f = number-found (table_of v l h) c k a b (λ o. z (q ∙ o)) in
       subst⁻¹ (λ y. Built n c v l h v l h k (suc m) (node_fn (table_of v l h) k m a b) y c) (q ∙ f.number)
       (built_in_use n c v l h k (suc m) (node_fn (table_of v l h) k m a b) (f.place + 2) p.sound e
       (record_refers (table_of v l h) c k f.place f.used (omega (arith, f.here.level)))
       (record_fn (table_of v l h) k m f.place f.here.level ∙
       (λ i. (fn_of (table_of v l h) (k + 1) m (f.here.low i), fn_of (table_of v l h) (k + 1) m (f.here.high i)))))
+
+  pub made_found : (r : Option ℕ) → r ≡ some_number (number_at (table_of v l h) c k a b) → true ≡ is_some r → MadeOf n c v l h v l h k (suc m) (node_fn (table_of v l h) k m a b) c r
+  unfolding MadeOf
+  made_found None q t = absurd (true≢false t)
+  made_found (Some x) q t =
+      let f = some_number_some (number_at (table_of v l h) c k a b) x (sym q) in
+      found_built x (sym f.0) (λ z. omega (arith, f.1))
 
   -- Different halves that no record has: the node itself is missing, and nothing else.
   different : (a ≡ b → ⊥) → same m (fn_of (table_of v l h) (k + 1) m a) (fn_of (table_of v l h) (k + 1) m b) ≡ false
@@ -120,3 +131,8 @@ module _ (n : ℕ) (c : ℕ) (v : List ℕ) (l : List ℕ) (h : List ℕ) (k : �
     where
       T' : Table
       T' = table_of (set v c k) (set l c a) (set h c b)
+
+-- Where the look-up found none, no record has the numbers.
+pub not_there : (r : Option ℕ) (x : ℕ) → r ≡ some_number x → false ≡ is_some r → x ≡ 0
+not_there None x q f = some_number_none x (sym q)
+not_there (Some y) x q f = absurd (true≢false (sym f))

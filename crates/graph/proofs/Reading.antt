@@ -4,14 +4,18 @@ use mathlib.Core.Path.{◌≡◌, refl, sym, ap, ◌∙◌, subst⁻¹}
 use mathlib.Core.Bool.{Bool, true, false, cond, not, ◌&&◌, ◌||◌}
 use mathlib.Core.Logic.{◌⊎◌, inl, inr}
 use Prim.Native.Nat.{ℕ, zero, suc, ◌+◌, ◌-◌, ◌<◌, ◌≤◌}
-use native.Mathlib.Nat.{not-suc-le-zero, le_antisymm}
+use native.Mathlib.Nat.{not-suc-le-zero}
 use native.Mathlib.Numerals.{add-one}
 use native.Mathlib.Omega.{arith}
 use lib.Dec.{eqb, ltb, leb}
-use borrow.Author.Tests.{leb-true, leb-false, eqb-true, lt-ltb, le-ltb, ne_eqb, eq-eqb}
-use Rattle.rule.proofs.Bools.{and_intro, and_false_r, must_be_false, clash, which}
+use borrow.Author.Tests.{leb-true, leb-false, lt-ltb, le-ltb, ne_eqb, eq-eqb}
+use Rattle.std.specs.Prelude.{Option, Some, None}
+use Rattle.std.specs.Option.{is_some}
+use Rattle.rule.specs.Refusal.{some_number}
+use Rattle.rule.proofs.Refusals.{some_number_none, some_number_some}
+use Rattle.rule.proofs.Bools.{and_intro, and_false_r, must_be_false, not_twice, clash, which}
 use Rattle.graph.specs.Table.{Table, is_at, child, half_of, refers, is_record, number_at, good_record, good_table}
-use Rattle.graph.proofs.Tests.{IsRecord, is-record, record_is, Good, record_good, good-record, good-at}
+use Rattle.graph.proofs.Tests.{IsRecord, is-record, record_is, good-record, good-at}
 
 module _ (T : Table) (k : ℕ) (x : ℕ) where
   -- A number whose record has another level is its own half; one whose record has the level has a low and a high number.
@@ -53,6 +57,13 @@ module _ (T : Table) (k : ℕ) (x : ℕ) where
       go (inl t) = ap not (le-ltb (T.level (x - 2)) k (leb-true k (T.level (x - 2)) t)) ∙ sym t
       go (inr f) = ap not (lt-ltb (T.level (x - 2)) k (leb-false k (T.level (x - 2)) f)) ∙ sym f
 
+-- A number that is 0 where there is none is none exactly if it is 0.
+pub none_is_zero : (r : Option ℕ) (x : ℕ) (b : Bool) → r ≡ some_number x → is_some r ≡ not b → b ≡ eqb x 0
+none_is_zero None x b e n = sym (not_twice b) ∙ ap not (sym n) ∙ sym (eq-eqb x 0 (some_number_none x (sym e)))
+none_is_zero (Some y) x b e n =
+    let f = some_number_some x y (sym e) in
+    sym (not_twice b) ∙ ap not (sym n) ∙ sym (ne_eqb x 0 (λ z. omega (arith, f.0, f.1, z)))
+
 -- The look-up among some records ends at the newest if that has the numbers, and else goes on with the others.
 module _ (T : Table) (v : ℕ) (l : ℕ) (h : ℕ) where
   one_record : (i : ℕ) → 0 < i → number_at T i v l h ≡ cond (is_record T (i - 1) v l h) (i - 1 + 2) (number_at T (i - 1) v l h)
@@ -78,20 +89,6 @@ module _ (T : Table) (v : ℕ) (l : ℕ) (h : ℕ) where
   none_to_find (suc i) p = absurd (not-suc-le-zero p)
 
 module _ (n : ℕ) (T : Table) where
-  -- A record that breaks a part of its rule is not good; if it keeps the other parts, the look-up decides.
-  pub breaks : (i : ℕ) → (Good n T i → ⊥) → good_record n T i ≡ false
-  breaks i b = must_be_false (good_record n T i) (λ t. b (record_good n T i t))
-
-  pub look_up_decides : (i : ℕ) (x : ℕ) → T.level i < n → (T.low i ≡ T.high i → ⊥) →
-      refers T i (T.level i + 1) (T.low i) ≡ true → refers T i (T.level i + 1) (T.high i) ≡ true →
-      x ≡ number_at T i (T.level i) (T.low i) (T.high i) → good_record n T i ≡ eqb x 0
-  look_up_decides i x v d l h e = go (which (eqb x 0))
-    where
-      go : (eqb x 0 ≡ true) ⊎ (eqb x 0 ≡ false) → good_record n T i ≡ eqb x 0
-      go (inl t) =
-          good-record n T i (record { level = v; differ = d; low = l; high = h; new = sym e ∙ eqb-true x 0 t }) ∙ sym t
-      go (inr f) = breaks i (λ g. clash (eq-eqb x 0 (e ∙ g.new)) f) ∙ sym f
-
   -- A table with no records is good, one more good record keeps it so, and one record that is not makes it bad.
   pub no_records : good_table n T 0 ≡ true
   unfolding good_table
@@ -104,6 +101,3 @@ module _ (n : ℕ) (T : Table) where
   pub one_bad : (c : ℕ) (i : ℕ) → i < c → good_record n T i ≡ false → good_table n T c ≡ false
   one_bad c i h f =
       must_be_false (good_table n T c) (λ t. clash (good-record n T i (good-at n T c t i h)) f)
-
-  pub all-good : (c : ℕ) (i : ℕ) → i ≤ c → c ≤ i → good_table n T i ≡ true → good_table n T c ≡ true
-  all-good c i h g e = ap (good_table n T) (le_antisymm g h) ∙ e

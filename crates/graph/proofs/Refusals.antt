@@ -9,7 +9,10 @@ use native.Mathlib.Omega.{arith}
 use lib.Dec.{eqb, leb, ltb}
 use lib.ListN.{length}
 use borrow.Author.Tests.{leb-true, eqb-true, eqb-false, ltb-true, le-leb, lt-leb, eq-eqb, not-true}
-use Rattle.rule.specs.Refusal.{Condition, first_broken, columns_over, table_over, record_broken}
+use Rattle.std.specs.Prelude.{Result, Ok, Err}
+use Rattle.std.specs.Result.{IsErrAnd}
+use Rattle.rule.specs.Refusal.{Condition, first_broken, passed, columns_over, table_over, record_broken}
+use Rattle.rule.proofs.Refusals.{passed_ok}
 use Rattle.rule.proofs.Bools.{and_left, and_right, and_intro, which, must_be_false}
 use Rattle.graph.specs.Table.{table_of, good_table}
 use Rattle.graph.specs.Sound.{Sized, Sound}
@@ -166,5 +169,18 @@ module _ (n : ℕ) (c : ℕ) (v : List ℕ) (l : List ℕ) (h : List ℕ) where
         good = first-kept records_kept [] (λ q. omega arith) e2;
       }
 
-  pub unbroken_count : (r : ℕ) → r ≡ first_broken (table_conditions n c v l h) → r ≡ 0 → c ≤ 4096
-  unbroken_count r e z = let s = (unbroken_sound r e z).sized in omega (arith, s.count, s.room)
+  -- What is known past the test of a table.
+  module _ (u : Unit) (e : Ok u ≡ passed (first_broken (table_conditions n c v l h))) where
+    pub passed_none : first_broken (table_conditions n c v l h) ≡ 0
+    passed_none = passed_ok (first_broken (table_conditions n c v l h)) u (sym e)
+
+    pub passed_sound : Sound n c v l h
+    passed_sound = unbroken_sound (first_broken (table_conditions n c v l h)) refl passed_none
+
+    pub passed_count : c ≤ 4096
+    passed_count = let s = passed_sound.sized in omega (arith, s.count, s.room)
+
+-- What the exit of a `?` returns, where the error is passed on as it is.
+pub passed_on : {A : Type 0} {E : Type 0} (r : Result A E) (e : E) → IsErrAnd r (λ x. x ≡ e) → r ≡ Err e
+passed_on (Ok a) e h = absurd h
+passed_on (Err x) e h = ap Err h

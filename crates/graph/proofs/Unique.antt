@@ -19,8 +19,8 @@ use Rattle.rule.proofs.Bools.{and_left, and_right, which}
 use Rattle.graph.specs.Table.{Table, table_of, refers, good_record, good_table, record_tree, functions, node_fn, Agree}
 use Rattle.graph.specs.Built.{Built}
 use Rattle.graph.specs.Entry.{build_conditions, cleared, Refusing, Answered, Operated}
-use Rattle.graph.specs.declared.entry.Answer.{Answer}
-use Rattle.graph.specs.declared.entry.Answer.TheVariants.{Done}
+use Rattle.std.specs.Prelude.{Result, Ok}
+use Rattle.rule.specs.declared.refusal.Refusal.{Refusal}
 use Rattle.graph.proofs.Tests.{Good, IsRecord, record_good}
 use Rattle.graph.proofs.Numbers.{equal_numbers}
 use Rattle.graph.proofs.Agree.{agree_back, agree-refers, agree_fn}
@@ -101,9 +101,9 @@ pub one_slice : (c : ℕ) (d : ℕ) (s : List ℕ) (t : List ℕ) → c ≡ d �
     s ≡ cleared c s → t ≡ cleared d t → s ≡ t
 one_slice c d s t e w b a p q = p ∙ same-cleared c s t w b a ∙ ap (λ k. cleared k t) e ∙ sym q
 
--- Two answers with what they leave in the slices are equal.
-abbrev Same : Answer → List ℕ → List ℕ → List ℕ → Answer → List ℕ → List ℕ → List ℕ → Type 0
-Same a₁ v₁ l₁ h₁ a₂ v₂ l₂ h₂ = (a₁ ≡ a₂) × (v₁ ≡ v₂) × (l₁ ≡ l₂) × (h₁ ≡ h₂)
+-- Two answers with what they leave of the count and the slices are equal.
+abbrev Same : Result ℕ Refusal → ℕ → List ℕ → List ℕ → List ℕ → Result ℕ Refusal → ℕ → List ℕ → List ℕ → List ℕ → Type 0
+Same a₁ d₁ v₁ l₁ h₁ a₂ d₂ v₂ l₂ h₂ = (a₁ ≡ a₂) × (d₁ ≡ d₂) × (v₁ ≡ v₂) × (l₁ ≡ l₂) × (h₁ ≡ h₂)
 
 module _ {n : ℕ} {c : ℕ} {v : List ℕ} {l : List ℕ} {h : List ℕ} {v₁ : List ℕ} {l₁ : List ℕ} {h₁ : List ℕ} {v₂ : List ℕ} {l₂ : List ℕ} {h₂ : List ℕ} where
   -- Two tables built for one function have as many records, the same ones, and the same number for it.
@@ -126,8 +126,8 @@ module _ {n : ℕ} {c : ℕ} {v : List ℕ} {l : List ℕ} {h : List ℕ} {v₁ 
         (subst⁻¹ (λ d. refers (table_of v₂ l₂ h₂) d k x₂ ≡ true) built-count b₂.number)
         (agree_fn (table_of v₁ l₁ h₁) (table_of v₂ l₂ h₂) c₁ built_records n b₁.sound.good m k x₁ b₁.number ∙ b₁.means ∙ sym b₂.means)
 
-  module _ {ranged : Bool} {f : Fn n} {a₁ : Answer} {a₂ : Answer} where
-    done_unique : Answered n c v l h ranged f v₁ l₁ h₁ a₁ → Answered n c v l h ranged f v₂ l₂ h₂ a₂ → Same a₁ v₁ l₁ h₁ a₂ v₂ l₂ h₂
+  module _ {ranged : Bool} {f : Fn n} {a₁ : Result ℕ Refusal} {a₂ : Result ℕ Refusal} {d₁ : ℕ} {d₂ : ℕ} where
+    done_unique : Answered n c v l h ranged f d₁ v₁ l₁ h₁ a₁ → Answered n c v l h ranged f d₂ v₂ l₂ h₂ a₂ → Same a₁ d₁ v₁ l₁ h₁ a₂ d₂ v₂ l₂ h₂
     unfolding table_of
     done_unique p q =
         let s₁ = p.built.sound.sized in
@@ -135,21 +135,22 @@ module _ {n : ℕ} {c : ℕ} {v : List ℕ} {l : List ℕ} {h : List ℕ} {v₁ 
         let count = built-count p.built q.built in
         let agree = built_records p.built q.built in
         let wide : length v₁ ≡ length v₂ = p.built.length-kept ∙ sym q.built.length-kept in (
-          p.answer ∙ (λ i. Done (built-number p.built q.built (omega arith) i) (count i)) ∙ sym q.answer,
+          p.answer ∙ ap Ok (built-number p.built q.built (omega arith)) ∙ sym q.answer,
+          p.counted ∙ count ∙ sym q.counted,
           one_slice p.count q.count v₁ v₂ count wide s₁.count agree.level p.level q.level,
           one_slice p.count q.count l₁ l₂ count (s₁.low ∙ wide ∙ sym s₂.low) (omega (arith, s₁.count, s₁.low)) agree.low p.low q.low,
           one_slice p.count q.count h₁ h₂ count (s₁.high ∙ wide ∙ sym s₂.high) (omega (arith, s₁.count, s₁.high)) agree.high p.high q.high,
         )
 
-    refused_unique : (r : ℕ) → Refusing n c v l h ranged f v₁ l₁ h₁ r a₁ → Refusing n c v l h ranged f v₂ l₂ h₂ r a₂ → Same a₁ v₁ l₁ h₁ a₂ v₂ l₂ h₂
+    refused_unique : (r : ℕ) → Refusing n c v l h ranged f d₁ v₁ l₁ h₁ r a₁ → Refusing n c v l h ranged f d₂ v₂ l₂ h₂ r a₂ → Same a₁ d₁ v₁ l₁ h₁ a₂ d₂ v₂ l₂ h₂
     refused_unique r p q =
-        (p.answer ∙ sym q.answer, p.level ∙ sym q.level, p.low ∙ sym q.low, p.high ∙ sym q.high)
+        (p.answer ∙ sym q.answer, p.counted ∙ sym q.counted, p.level ∙ sym q.level, p.low ∙ sym q.low, p.high ∙ sym q.high)
 
-    -- What the contract of a building operation allows is one answer, and one content of the three slices.
-    pub operated_unique : Operated n c v l h ranged f v₁ l₁ h₁ a₁ → Operated n c v l h ranged f v₂ l₂ h₂ a₂ →
-        (a₁ ≡ a₂) × (v₁ ≡ v₂) × (l₁ ≡ l₂) × (h₁ ≡ h₂)
+    -- What the contract of a building operation allows is one answer, one count, and one content of the three slices.
+    pub operated_unique : Operated n c v l h ranged f d₁ v₁ l₁ h₁ a₁ → Operated n c v l h ranged f d₂ v₂ l₂ h₂ a₂ →
+        (a₁ ≡ a₂) × (d₁ ≡ d₂) × (v₁ ≡ v₂) × (l₁ ≡ l₂) × (h₁ ≡ h₂)
     operated_unique p q = go (first_broken (build_conditions n c v l h ranged f)) refl
       where
-        go : (b : ℕ) → first_broken (build_conditions n c v l h ranged f) ≡ b → Same a₁ v₁ l₁ h₁ a₂ v₂ l₂ h₂
+        go : (b : ℕ) → first_broken (build_conditions n c v l h ranged f) ≡ b → Same a₁ d₁ v₁ l₁ h₁ a₂ d₂ v₂ l₂ h₂
         go zero e = done_unique (p.done e) (q.done e)
         go (suc r) e = refused_unique (suc r) (p.refused r e) (q.refused r e)

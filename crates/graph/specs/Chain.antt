@@ -28,8 +28,3 @@ pub record Chained (c : ℕ) (v : List ℕ) (l : List ℕ) (h : List ℕ) (last 
 pub record Linkable (i : ℕ) (v : List ℕ) (l : List ℕ) (h : List ℕ) (last : List ℕ) (prev : List ℕ) : Type 0 where
   pub chained : Chained i v l h last prev
   pub more : i < length v
-
--- What is asked to test whether c records keep their rule, with rooms for their chains.
-pub record Testable (c : ℕ) (v : List ℕ) (l : List ℕ) (h : List ℕ) (last : List ℕ) (prev : List ℕ) : Type 0 where
-  pub sized : Sized c v l h
-  pub chained : Chained 0 v l h last prev

@@ -1,34 +1,31 @@
 -- The public entries: what each refuses, in which order, what it answers, and what it leaves behind.
-use Rattle.std.specs.Prelude.{◌≡◌, Bool, true, false, cond, ◌&&◌, List, [], ◌∷◌, ◌++◌, ℕ, zero, suc, ◌+◌, ◌-◌, ◌^◌, eqb, leb, ltb, length, take, replicate}
+use Rattle.std.specs.Prelude.{◌≡◌, Bool, true, false, cond, ◌&&◌, List, [], ◌∷◌, ◌++◌, ℕ, zero, suc, ◌+◌, ◌-◌, ◌^◌, eqb, leb, ltb, length, take, replicate, Option, Some, None, Result, Ok, Err}
 use Rattle.rule.specs.Func.{Fn, constant, joined, within}
 use Rattle.rule.specs.Point.{at, digits}
 use Rattle.rule.specs.Nodes.{nodes, add_all}
-use Rattle.rule.specs.Refusal.{Condition, first_broken, columns_over, table_over, record_broken, out_of_range, not_within, list_over, nodes_lack}
+use Rattle.rule.specs.Refusal.{Condition, first_broken, columns_over, table_over, record_broken, out_of_range, not_within, list_over, nodes_lack, number_of, refusal_of}
 use Rattle.graph.specs.Table.{table_of, fn_of, good_table, functions}
 use Rattle.graph.specs.Operation.{op_of}
 use Rattle.graph.specs.Built.{Built}
 use Rattle.graph.specs.declared.operation.Op.{Op}
-use Rattle.graph.specs.declared.build.Made.{Made}
-use Rattle.graph.specs.declared.entry.Answer.{Answer}
-use Rattle.graph.specs.declared.entry.Answer.TheVariants.{Done, Refused}
-use Rattle.graph.specs.declared.entry.Valued.{Valued}
-use Rattle.graph.specs.declared.entry.Valued.TheVariants.{Is, Denied}
+use Rattle.rule.specs.declared.refusal.Refusal.{Refusal}
 
--- The numbers of an answer, as document 01 has them: the refusal or 0, what it returns, the root, the count of records.
+-- The numbers of an answer and of the count of records after it, as document 01 has them: the refusal or 0, what it returns,
+-- the root, the count of records.
 pub record Numbers : Type 0 where
   pub refusal : ℕ
   pub returned : ℕ
   pub root : ℕ
   pub count : ℕ
 
-unfoldable pub numbers_of : Answer → Numbers
-numbers_of (Done x c) = record { refusal = 0; returned = 0; root = x; count = c }
-numbers_of (Refused r c) = record { refusal = r; returned = 0; root = 0; count = c }
+unfoldable pub numbers_of : Result ℕ Refusal → ℕ → Numbers
+numbers_of (Ok x) c = record { refusal = 0; returned = 0; root = x; count = c }
+numbers_of (Err r) c = record { refusal = number_of r; returned = 0; root = 0; count = c }
 
 -- The refusal or 0, and the value at the point, which is 0 at a refusal.
-unfoldable pub value_of : Valued → ℕ × Bool
-value_of (Is b) = (0, b)
-value_of (Denied r) = (r, false)
+unfoldable pub value_of : Result Bool Refusal → ℕ × Bool
+value_of (Ok b) = (0, b)
+value_of (Err r) = (number_of r, false)
 
 -- What every entry asks of its table: 1, at most 16 columns; 2, three slices of one length, at most 4,096, that holds the
 -- count; 3, every record in use keeps its rule.
@@ -52,49 +49,52 @@ build_conditions n c v l h ranged f =
 unfoldable pub cleared : ℕ → List ℕ → List ℕ
 cleared c s = take c s ++ replicate (length s - c) 0
 
--- The answer to what was made, and the count of records in use after it.
-unfoldable pub count_after : Made → ℕ → ℕ
-count_after (Made.Done x c') c = c'
-count_after Made.Full c = c
+-- The answer to what was made, with c records in use before it and c' after, and the count of records that stay in use.
+unfoldable pub count_after : Option ℕ → ℕ → ℕ → ℕ
+count_after (Some x) c' c = c'
+count_after None c' c = c
 
-unfoldable pub answer_to : Made → ℕ → Answer
-answer_to (Made.Done x c') c = Done x c'
-answer_to Made.Full c = Refused nodes_lack c
+unfoldable pub answer_to : Option ℕ → Result ℕ Refusal
+answer_to (Some x) = Ok x
+answer_to None = Err (refusal_of nodes_lack)
 
 -- That answer is given, and the records past that count are zero.
-pub record Settled (made : Made) (c : ℕ) (v : List ℕ) (l : List ℕ) (h : List ℕ) (v' : List ℕ) (l' : List ℕ) (h' : List ℕ) (a : Answer) : Type 0 where
-  pub answer : a ≡ answer_to made c
-  pub level : v' ≡ cleared (count_after made c) v
-  pub low : l' ≡ cleared (count_after made c) l
-  pub high : h' ≡ cleared (count_after made c) h
+pub record Settled (made : Option ℕ) (c : ℕ) (c₁ : ℕ) (v : List ℕ) (l : List ℕ) (h : List ℕ) (c' : ℕ) (v' : List ℕ) (l' : List ℕ) (h' : List ℕ) (a : Result ℕ Refusal) : Type 0 where
+  pub answer : a ≡ answer_to made
+  pub count : c' ≡ count_after made c₁ c
+  pub level : v' ≡ cleared (count_after made c₁ c) v
+  pub low : l' ≡ cleared (count_after made c₁ c) l
+  pub high : h' ≡ cleared (count_after made c₁ c) h
 
 -- What a refusal leaves of a slice: 7 clears the records past the count, every other one changes nothing.
 unfoldable pub left_by : ℕ → ℕ → List ℕ → List ℕ
 left_by r c s = cond (eqb r nodes_lack) (cleared c s) s
 
-module _ (n : ℕ) (c : ℕ) (v : List ℕ) (l : List ℕ) (h : List ℕ) (ranged : Bool) (f : Fn n) (v' : List ℕ) (l' : List ℕ) (h' : List ℕ) where
-  -- Refused: the answer has the number and the old count, and the slices are left as the number says.
-  pub record Refusing (r : ℕ) (a : Answer) : Type 0 where
-    pub answer : a ≡ Refused r c
-    pub numbers : numbers_of a ≡ record { refusal = r; returned = 0; root = 0; count = c }
+module _ (n : ℕ) (c : ℕ) (v : List ℕ) (l : List ℕ) (h : List ℕ) (ranged : Bool) (f : Fn n) (c' : ℕ) (v' : List ℕ) (l' : List ℕ) (h' : List ℕ) where
+  -- Refused: the answer has the refusal with the number, the count is the old one, and the slices are left as the number says.
+  pub record Refusing (r : ℕ) (a : Result ℕ Refusal) : Type 0 where
+    pub answer : a ≡ Err (refusal_of r)
+    pub counted : c' ≡ c
+    pub numbers : numbers_of a c' ≡ record { refusal = r; returned = 0; root = 0; count = c }
     pub level : v' ≡ left_by r c v
     pub low : l' ≡ left_by r c l
     pub high : h' ≡ left_by r c h
 
   -- Done: the root's function is f, the records in use are kept, exactly the missing nodes are added, and the records past
   -- the count are zero.
-  pub record Answered (a : Answer) : Type 0 where
+  pub record Answered (a : Result ℕ Refusal) : Type 0 where
     pub root : ℕ
     pub count : ℕ
-    pub answer : a ≡ Done root count
-    pub numbers : numbers_of a ≡ record { refusal = 0; returned = 0; root = root; count = count }
+    pub answer : a ≡ Ok root
+    pub counted : c' ≡ count
+    pub numbers : numbers_of a c' ≡ record { refusal = 0; returned = 0; root = root; count = count }
     pub built : Built n c v l h v' l' h' 0 n f root count
     pub level : v' ≡ cleared count v'
     pub low : l' ≡ cleared count l'
     pub high : h' ≡ cleared count h'
 
   -- A building operation with the result f: refused by the first broken condition, else done.
-  pub record Operated (a : Answer) : Type 0 where
+  pub record Operated (a : Result ℕ Refusal) : Type 0 where
     pub refused : (r : ℕ) → first_broken (build_conditions n c v l h ranged f) ≡ suc r → Refusing (suc r) a
     pub done : first_broken (build_conditions n c v l h ranged f) ≡ 0 → Answered a
 
@@ -127,6 +127,6 @@ value_conditions n c v l h x p =
     table_conditions n c v l h ++ (record { number = out_of_range; kept = in_range c x && ltb p (2 ^ n) } ∷ [])
 
 -- The answer: the first broken condition, else the value.
-unfoldable pub value_answer : ℕ → (n : ℕ) → List ℕ → List ℕ → List ℕ → ℕ → ℕ → Valued
-value_answer zero n v l h x p = Is (at n (fn_of (table_of v l h) 0 n x) (digits n p))
-value_answer (suc r) n v l h x p = Denied (suc r)
+unfoldable pub value_answer : ℕ → (n : ℕ) → List ℕ → List ℕ → List ℕ → ℕ → ℕ → Result Bool Refusal
+value_answer zero n v l h x p = Ok (at n (fn_of (table_of v l h) 0 n x) (digits n p))
+value_answer (suc r) n v l h x p = Err (refusal_of (suc r))

@@ -7,3 +7,4 @@ pub mod Operation
 pub mod Built
 pub mod Run
 pub mod Entry
+pub mod Lent

@@ -1,11 +1,9 @@
 -- The operations, and what is known of a result without taking columns apart.
-use Rattle.std.specs.Prelude.{◌≡◌, Bool, true, ◌&&◌, ◌||◌, ℕ, ◌<◌}
+use Rattle.std.specs.Prelude.{◌≡◌, Bool, true, false, ◌&&◌, ◌||◌, ℕ, ◌<◌, Option, Some, None}
 use Rattle.rule.specs.Func.{joined, but_not}
 use Rattle.graph.specs.Table.{Table, fn_of, refers}
 use Rattle.graph.specs.declared.operation.Op.{Op}
 use Rattle.graph.specs.declared.operation.Op.TheVariants.{And, Or, Difference}
-use Rattle.graph.specs.declared.operation.Terminal.{Terminal}
-use Rattle.graph.specs.declared.operation.Terminal.TheVariants.{Known, Split}
 
 -- An operation on truth values: and, or, first and not second.
 unfoldable pub op_of : Op → Bool → Bool → Bool
@@ -20,6 +18,11 @@ pub record Right (op : Op) (a : ℕ) (b : ℕ) (x : ℕ) : Type 0 where
   pub means : (T : Table) (k : ℕ) (m : ℕ) → fn_of T k m x ≡ joined (op_of op) m (fn_of T k m a) (fn_of T k m b)
 
 -- Operands are split only if they are not both constants.
-unfoldable pub TerminalOf : Op → ℕ → ℕ → Terminal → Type 0
-TerminalOf op a b (Known x) = Right op a b x
-TerminalOf op a b Split = (a < 2) × (b < 2) → ⊥
+unfoldable pub TerminalOf : Op → ℕ → ℕ → Option ℕ → Type 0
+TerminalOf op a b (Some x) = Right op a b x
+TerminalOf op a b None = (a < 2) × (b < 2) → ⊥
+
+-- The operation that is the same in both operands and that a constant decides: 0 and, 1 or.
+unfoldable pub symmetric : Bool → Op
+symmetric false = And
+symmetric true = Or

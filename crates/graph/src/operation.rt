@@ -1,6 +1,5 @@
 // The operations and their terminal cases: where the result is known without taking columns apart.
-ghost use Rattle.std.specs.Prelude.{◌≡◌};
-ghost use Rattle.graph.specs.Operation.{TerminalOf};
+ghost use Rattle.graph.specs.Operation.{TerminalOf, symmetric};
 
 #[derive(Clone, Copy)]
 pub enum Op {
@@ -9,79 +8,45 @@ pub enum Op {
     Difference,
 }
 
-// A number that is the result whatever the columns are, or none: then the operands are to be split.
-#[derive(Clone, Copy)]
-pub enum Terminal {
-    Known(u16),
-    Split,
+impl Op {
+    // A number that is the result whatever the columns are, or none: then the operands are to be split.
+    #[tactic(auto, unfolding(crate::specs::Operation::symmetric))]
+    pub fn known(self, a: u16, b: u16) -> Option<u16>
+        ensures { TerminalOf self a b result }
+    {
+        match self {
+            Op::And => symmetric_terminal(false, a, b),
+            Op::Or => symmetric_terminal(true, a, b),
+            Op::Difference => difference_terminal(a, b),
+        }
+    }
 }
 
-pub fn known(op: Op, a: u16, b: u16) -> Terminal
-    ensures { TerminalOf op a b result }
+// And where 0 decides, or where 1 does: the constant that decides is the result, the other one leaves the other operand.
+fn symmetric_terminal(one_decides: bool, a: u16, b: u16) -> Option<u16>
+    ensures { TerminalOf (symmetric one_decides) a b result }
 {
-    match op {
-        Op::And => and_terminal(a, b),
-        Op::Or => or_terminal(a, b),
-        Op::Difference => difference_terminal(a, b),
+    let decides = one_decides as u16;
+    if a == decides || b == decides {
+        return Some(decides);
     }
+    if a < 2 {
+        return Some(b);
+    }
+    if b < 2 || a == b {
+        return Some(a);
+    }
+    None
 }
 
-fn and_terminal(a: u16, b: u16) -> Terminal
-    ensures { TerminalOf Op.And a b result }
-{
-    if a == 0 {
-        return Terminal::Known(0);
-    }
-    if b == 0 {
-        return Terminal::Known(0);
-    }
-    if a == 1 {
-        return Terminal::Known(b);
-    }
-    if b == 1 {
-        return Terminal::Known(a);
-    }
-    if a == b {
-        return Terminal::Known(a);
-    }
-    Terminal::Split
-}
-
-fn or_terminal(a: u16, b: u16) -> Terminal
-    ensures { TerminalOf Op.Or a b result }
-{
-    if a == 1 {
-        return Terminal::Known(1);
-    }
-    if b == 1 {
-        return Terminal::Known(1);
-    }
-    if a == 0 {
-        return Terminal::Known(b);
-    }
-    if b == 0 {
-        return Terminal::Known(a);
-    }
-    if a == b {
-        return Terminal::Known(a);
-    }
-    Terminal::Split
-}
-
-fn difference_terminal(a: u16, b: u16) -> Terminal
+fn difference_terminal(a: u16, b: u16) -> Option<u16>
     ensures { TerminalOf Op.Difference a b result }
 {
-    if a == 0 {
-        return Terminal::Known(0);
-    }
-    if b == 1 {
-        return Terminal::Known(0);
+    if a == 0 || b == 1 || a == b {
+        return Some(0);
     }
     if b == 0 {
-        return Terminal::Known(a);
+        return Some(a);
     }
-    if a == b {
-        return Terminal::Known(0);
-    }
-    Terminal::Split
+    None
 }

@@ -1,52 +1,58 @@
 -- `graph::entry::operate` meets its contract: the tests stand in the order of the conditions, and settling answers what
 -- was made of the operation at the first column.
-use mathlib.Core.Path.{sym, ◌∙◌}
-use Rattle.rule.proofs.Bools.{not_is_true, not_is_false}
+use mathlib.Core.Path.{◌≡◌, sym, ◌∙◌}
+use Rattle.std.specs.Prelude.{Ok}
+use Rattle.rule.specs.Refusal.{first_broken, passed, refusal_of}
+use Rattle.graph.specs.Entry.{table_conditions}
 use Rattle.graph.proofs.Columns.{both-roots}
-use Rattle.graph.proofs.Refusals.{unbroken_sound, unbroken_count}
-use Rattle.graph.proofs.Entries.{root_in_range, both_in, first_out, second-out, operated_bad_table, operated-out_of_range, operated_settled, count_fits, result_made}
+use Rattle.graph.proofs.Lending.{read_refusal}
+use Rattle.graph.proofs.Refusals.{passed_on, passed_sound, passed_count}
+use Rattle.graph.proofs.Entries.{root_in_range, both_in, first_out, second-out}
+use Rattle.graph.proofs.Applying.{Promise}
+use Rattle.graph.proofs.Operating.{operated_bad_table, operated-out_of_range, operated_settled, made_fits, result_made}
 use Rattle.graph.proofs.entry.operate.Goals as goal
+use Rattle.graph.proofs.entry.operate.Goals.{In_ok-table_refusal, then-not-in_range-via-then-not-in_range, then-not-in_range-via-else-not-in_range+then-not-in_range-2}
 
-pub returns-then-broken-ne0 : goal.returns-then-broken-ne0
-returns-then-broken-ne0 c = operated_bad_table _ _ _ _ _ _ _ _ c.table_refusal-broken.ensures c.if-broken-ne0.true
+-- Past the test of the table it is known to keep its conditions.
+kept : (c : In_ok-table_refusal) → let t = c.args.table.now in Ok c.in_ok-table_refusal.field-0 ≡ passed (first_broken (table_conditions t.columns t.count t.level.now t.low.now t.high.now))
+kept c = c.in_ok-table_refusal.ensures ∙ read_refusal _ _ c.reading.ensures
+
+pub returns-in_err-table_refusal-clause-operated : goal.returns-in_err-table_refusal-clause-operated
+returns-in_err-table_refusal-clause-operated c =
+    rw (passed_on c.from_residual.result c.in_err-table_refusal.field-0.0 c.from_residual.ensures.1)
+    (operated_bad_table _ _ _ _ _ _ _ _ (c.in_err-table_refusal.ensures ∙ read_refusal _ _ c.reading.ensures))
 
 pub in_range-requires : goal.in_range-requires
-in_range-requires c = unbroken_count _ _ _ _ _ _ c.table_refusal-broken.ensures c.if-broken-ne0.false
+in_range-requires c = passed_count _ _ _ _ _ _ (kept (goal.at.in_range-requires c).In_ok-table_refusal)
 
-pub returns-then-not-in_range : goal.returns-then-not-in_range
-returns-then-not-in_range c =
-    operated-out_of_range _ _ _ _ _ _ _ _ c.table_refusal-broken.ensures c.if-broken-ne0.false
-    (first_out _ _ _ (sym c.in_range.ensures ∙ not_is_true c.in_range.result c.if-not-in_range.true-raw))
+pub in_range-requires-else-not-in_range : goal.in_range-requires-else-not-in_range
+in_range-requires-else-not-in_range c = passed_count _ _ _ _ _ _ (kept (goal.at.in_range-requires-else-not-in_range c).In_ok-table_refusal)
 
-pub in_range-requires-2 : goal.in_range-requires-2
-in_range-requires-2 c = unbroken_count _ _ _ _ _ _ c.table_refusal-broken.ensures c.if-broken-ne0.false
-
-pub returns-then-not-in_range-2 : goal.returns-then-not-in_range-2
-returns-then-not-in_range-2 c =
-    operated-out_of_range _ _ _ _ _ _ _ _ c.table_refusal-broken.ensures c.if-broken-ne0.false
-    (second-out _ _ _ (sym c.in_range-2.ensures ∙ not_is_true c.in_range-2.result c.if-not-in_range-2.true-raw))
+pub returns-then-not-in_range-clause-operated : goal.returns-then-not-in_range-clause-operated
+unfolding refusal_of
+returns-then-not-in_range-clause-operated c =
+    operated-out_of_range _ _ _ _ _ _ _ _ (kept (goal.at.returns-then-not-in_range-clause-operated c).In_ok-table_refusal)
+    (elim c.then-not-in_range.branch [
+      | then-not-in_range-via-then-not-in_range w ↦ first_out _ _ _ (sym c.in_range.ensures ∙ w.if-not-in_range.true)
+      | then-not-in_range-via-else-not-in_range+then-not-in_range-2 w ↦
+          second-out _ _ _ (sym w.in_range-else-not-in_range.ensures ∙ w.if-not-in_range-2.true)
+    ])
 
 pub apply-made-requires : goal.apply-made-requires
 apply-made-requires c =
-    let first = c.in_range in
-    let second = c.in_range-2 in
-    let sound = unbroken_sound _ _ _ _ _ _ c.table_refusal-broken.ensures c.if-broken-ne0.false in
-    both-roots
-    (root_in_range _ _ _ _ _ _ sound (sym first.ensures ∙ not_is_false first.result c.if-not-in_range.false-raw))
-    (root_in_range _ _ _ _ _ _ sound (sym second.ensures ∙ not_is_false second.result c.if-not-in_range-2.false-raw))
+    let sound = passed_sound _ _ _ _ _ _ (kept (goal.at.apply-made-requires c).In_ok-table_refusal) in
+    let a = root_in_range _ _ _ _ _ c.args.a sound (sym c.in_range.ensures ∙ c.if-not-in_range.false) in
+    let b = root_in_range _ _ _ _ _ c.args.b sound (sym c.in_range-else-not-in_range.ensures ∙ c.if-not-in_range-2.false) in
+    search (a, b, both-roots)
 
 pub settle-requires : goal.settle-requires
-settle-requires c =
-    let made = c.apply-made in
-    count_fits _ _ _ _ _ _ _ _ _ _ _ made.result (result_made _ _ _ _ _ _ _ _ _ _ _ _ made.ensures)
+unfolding Promise
+settle-requires c = made_fits c.args.table.now c.apply-made.new.self _ _ _ _ (result_made _ c.args.table.now _ _ c.apply-made.new.self _ c.apply-made.ensures.made)
 
-pub returns : goal.returns
-returns c =
-    let first = c.in_range in
-    let second = c.in_range-2 in
-    let made = c.apply-made in
-    operated_settled _ _ _ _ _ _ _ _ _ _ _ _ _ _ _ c.table_refusal-broken.ensures c.if-broken-ne0.false
-    (both_in _ _ _
-    (sym first.ensures ∙ not_is_false first.result c.if-not-in_range.false-raw)
-    (sym second.ensures ∙ not_is_false second.result c.if-not-in_range-2.false-raw))
-    made.result (result_made _ _ _ _ _ _ _ _ _ _ _ _ made.ensures) c.settle.ensures
+pub returns-clause-operated : goal.returns-clause-operated
+unfolding Promise
+returns-clause-operated c =
+    operated_settled _ _ _ _ _ _ _ _ (kept (goal.at.returns-clause-operated c).In_ok-table_refusal) _ _ _ _ _ _ _ _ _
+    (both_in _ _ _ (sym c.in_range.ensures ∙ c.if-not-in_range.false)
+    (sym c.in_range-else-not-in_range.ensures ∙ c.if-not-in_range-2.false))
+    _ (result_made _ c.args.table.now _ _ c.apply-made.new.self _ c.apply-made.ensures.made) c.settle.ensures.settled

@@ -1,44 +1,21 @@
 -- `graph::entry::settle` meets its contract: what was made says the count, and each slice is cleared from there on.
+use Rattle.rule.specs.Refusal.{refusal_of}
 use Rattle.graph.specs.Entry.{count_after, answer_to}
-use Rattle.graph.proofs.Entries.{told-fits, told_settled}
+use Rattle.graph.proofs.Operating.{told-fits, told_settled}
 use Rattle.graph.proofs.entry.settle.Goals as goal
 
-pub clear_from-requires : goal.clear_from-requires
+pub give_back-requires : goal.give_back-requires
 unfolding count_after
-clear_from-requires c = told-fits _ _ _ c.in-Done.is _ c.requires.0
+give_back-requires c = told-fits _ _ _ _ c.in_default.is c.requires
 
-pub clear_from-requires-in-Done : goal.clear_from-requires-in-Done
+pub returns-in_default-clause-settled : goal.returns-in_default-clause-settled
+unfolding count_after answer_to refusal_of
+returns-in_default-clause-settled c = told_settled _ _ _ _ c.in_default.is _ c.give_back.ensures.given
+
+pub give_back-requires-2 : goal.give_back-requires-2
 unfolding count_after
-clear_from-requires-in-Done c = told-fits _ _ _ c.in-Done.is _ c.requires.1
+give_back-requires-2 c = told-fits _ _ _ _ c.in-Some.is c.requires
 
-pub clear_from-requires-in-Done-2 : goal.clear_from-requires-in-Done-2
-unfolding count_after
-clear_from-requires-in-Done-2 c = told-fits _ _ _ c.in-Done.is _ c.requires.2
-
-pub clear_from-requires-in-Full : goal.clear_from-requires-in-Full
-unfolding count_after
-clear_from-requires-in-Full c = told-fits _ _ _ c.in-Full.is _ c.requires.0
-
-pub clear_from-requires-in-Full-2 : goal.clear_from-requires-in-Full-2
-unfolding count_after
-clear_from-requires-in-Full-2 c = told-fits _ _ _ c.in-Full.is _ c.requires.1
-
-pub clear_from-requires-in-Full-3 : goal.clear_from-requires-in-Full-3
-unfolding count_after
-clear_from-requires-in-Full-3 c = told-fits _ _ _ c.in-Full.is _ c.requires.2
-
-pub returns-in-Done : goal.returns-in-Done
+pub returns-clause-settled : goal.returns-clause-settled
 unfolding count_after answer_to
-returns-in-Done c =
-    told_settled _ _ _ c.in-Done.is _ _ _ _ _ _
-    c.clear_from.ensures
-    c.clear_from-in-Done.ensures
-    c.clear_from-in-Done-2.ensures
-
-pub returns-in-Full : goal.returns-in-Full
-unfolding count_after answer_to
-returns-in-Full c =
-    told_settled _ _ _ c.in-Full.is _ _ _ _ _ _
-    c.clear_from-in-Full.ensures
-    c.clear_from-in-Full-2.ensures
-    c.clear_from-in-Full-3.ensures
+returns-clause-settled c = told_settled _ _ _ _ c.in-Some.is _ c.give_back-2.ensures.given

@@ -1,34 +1,49 @@
 -- `graph::entry::variable` meets its contract: the tests stand in the order of the conditions, the node of the column has
 -- its function over all columns, and settling answers it.
+use mathlib.Core.Path.{◌≡◌, ◌∙◌}
 use native.Mathlib.Omega.{arith}
 use borrow.Author.Tests.{lt-ltb, le-ltb}
+use Rattle.std.specs.Prelude.{Ok}
+use Rattle.rule.specs.Refusal.{first_broken, passed, refusal_of}
+use Rattle.graph.specs.Entry.{table_conditions}
 use Rattle.graph.proofs.Tests.{constant-refers}
-use Rattle.graph.proofs.Refusals.{unbroken_sound}
-use Rattle.graph.proofs.Entries.{operated_bad_table, operated-out_of_range, operated_settled, count_fits, variable_made}
+use Rattle.graph.proofs.Lending.{read_refusal}
+use Rattle.graph.proofs.Refusals.{passed_on, passed_sound}
+use Rattle.graph.proofs.Operating.{operated_bad_table, operated-out_of_range, operated_settled, made_fits, variable_made}
 use Rattle.graph.proofs.entry.variable.Goals as goal
+use Rattle.graph.proofs.entry.variable.Goals.{In_ok-table_refusal}
 
-pub returns-then-broken-ne0 : goal.returns-then-broken-ne0
-returns-then-broken-ne0 c = operated_bad_table _ _ _ _ _ _ _ _ c.table_refusal-broken.ensures c.if-broken-ne0.true
+-- Past the test of the table it is known to keep its conditions.
+kept : (c : In_ok-table_refusal) → let t = c.args.table.now in Ok c.in_ok-table_refusal.field-0 ≡ passed (first_broken (table_conditions t.columns t.count t.level.now t.low.now t.high.now))
+kept c = c.in_ok-table_refusal.ensures ∙ read_refusal _ _ c.reading.ensures
 
-pub returns-then-columns-column : goal.returns-then-columns-column
-returns-then-columns-column c = operated-out_of_range _ _ _ _ _ _ _ _ c.table_refusal-broken.ensures c.if-broken-ne0.false (le-ltb _ _ c.if-columns-column.true)
+pub returns-in_err-table_refusal-clause-operated : goal.returns-in_err-table_refusal-clause-operated
+returns-in_err-table_refusal-clause-operated c =
+    rw (passed_on c.from_residual.result c.in_err-table_refusal.field-0.0 c.from_residual.ensures.1)
+    (operated_bad_table _ _ _ _ _ _ _ _ (c.in_err-table_refusal.ensures ∙ read_refusal _ _ c.reading.ensures))
+
+pub returns-then-table-column-clause-operated : goal.returns-then-table-column-clause-operated
+unfolding refusal_of
+returns-then-table-column-clause-operated c =
+    operated-out_of_range _ _ _ _ _ _ _ _ (kept (goal.at.returns-then-table-column-clause-operated c).In_ok-table_refusal)
+    (le-ltb _ _ c.if-table-column.true)
 
 pub make-made-requires : goal.make-made-requires
 make-made-requires c =
     record {
-      sound = unbroken_sound _ _ _ _ _ _ c.table_refusal-broken.ensures c.if-broken-ne0.false;
-      column = c.if-columns-column.false;
+      sound = passed_sound _ _ _ _ _ _ (kept (goal.at.make-made-requires c).In_ok-table_refusal);
+      column = c.if-table-column.false;
       first = constant-refers _ _ _ _ (omega arith);
       second = constant-refers _ _ _ _ (omega arith);
     }
 
 pub settle-requires : goal.settle-requires
 settle-requires c =
-    let made = c.make-made in
-    count_fits _ _ _ _ _ _ _ _ _ _ _ made.result (variable_made _ _ _ _ _ _ _ _ _ _ made.ensures c.if-columns-column.false)
+    made_fits c.args.table.now c.make-made.new.self _ _ _ _
+    (variable_made c.args.table.now c.make-made.new.self _ _ c.make-made.ensures.made c.if-table-column.false)
 
-pub returns : goal.returns
-returns c =
-    let made = c.make-made in
-    operated_settled _ _ _ _ _ _ _ _ _ _ _ _ _ _ _ c.table_refusal-broken.ensures c.if-broken-ne0.false (lt-ltb _ _ c.if-columns-column.false)
-    made.result (variable_made _ _ _ _ _ _ _ _ _ _ made.ensures c.if-columns-column.false) c.settle.ensures
+pub returns-clause-operated : goal.returns-clause-operated
+returns-clause-operated c =
+    operated_settled _ _ _ _ _ _ _ _ (kept (goal.at.returns-clause-operated c).In_ok-table_refusal) _ _ _ _ _ _ _ _ _
+    (lt-ltb _ _ c.if-table-column.false)
+    _ (variable_made c.args.table.now c.make-made.new.self _ _ c.make-made.ensures.made c.if-table-column.false) c.settle.ensures.settled

@@ -8,22 +8,20 @@ use Rattle.rule.specs.Func.{but_not}
 use Rattle.graph.specs.Operation.{TerminalOf, op_of}
 use Rattle.graph.proofs.Terminal.{first_decides, second_decides, second_neutral, equals_decide}
 use Rattle.graph.proofs.operation.difference_terminal.Goals as goal
+use Rattle.graph.proofs.operation.difference_terminal.Goals.{then-a-eq0-via-then-a-eq0, then-a-eq0-via-else-a-eq0+then-b-eq1, then-a-eq0-via-else-a-eq0+else-b-eq1+then-a-b}
 
 pub returns-then-a-eq0 : goal.returns-then-a-eq0
 unfolding TerminalOf bit op_of but_not
-returns-then-a-eq0 c = first_decides false false c.if-a-eq0.true (λ q. refl)
-
-pub returns-then-b-eq1 : goal.returns-then-b-eq1
-unfolding TerminalOf bit op_of but_not
-returns-then-b-eq1 c = second_decides true false c.if-b-eq1.true and-false
+returns-then-a-eq0 c =
+    elim c.then-a-eq0.branch [
+      | then-a-eq0-via-then-a-eq0 w ↦ first_decides false false w.if-a-eq0.true (λ q. refl)
+      | then-a-eq0-via-else-a-eq0+then-b-eq1 w ↦ second_decides true false w.if-b-eq1.true and-false
+      | then-a-eq0-via-else-a-eq0+else-b-eq1+then-a-b w ↦ equals_decide false w.if-a-b.true and-not_self
+    ]
 
 pub returns-then-b-eq0 : goal.returns-then-b-eq0
 unfolding TerminalOf bit op_of but_not
 returns-then-b-eq0 c = second_neutral false c.if-b-eq0.true and-true
-
-pub returns-then-a-b : goal.returns-then-a-b
-unfolding TerminalOf bit op_of but_not
-returns-then-a-b c = equals_decide false c.if-a-b.true and-not_self
 
 pub returns : goal.returns
 unfolding TerminalOf
