@@ -1,115 +1,72 @@
 // One recursive operation for and, or and difference, with a memo beside the table.
 ghost use Rattle.std.specs.Prelude.{◌≡◌, ℕ, ◌+◌};
 ghost use Rattle.rule.specs.Func.{joined};
-ghost use Rattle.graph.specs.Table.{table_of, fn_of};
-ghost use Rattle.graph.specs.Sound.{RootedTwice};
+ghost use Rattle.graph.specs.Table.{fn_of};
+ghost use Rattle.graph.specs.Lent.{table, RootsIn, MadeIn};
 ghost use Rattle.graph.specs.Operation.{op_of};
-ghost use Rattle.graph.specs.Built.{MadeOf};
-ghost use Rattle.memo.specs.Memo.{Holds, HoldsAfter, Halved};
+ghost use Rattle.memo.specs.Memo.{SameTable, HoldsIn, HoldsAfterIn, HalvedIn};
 
-use crate::store;
-use crate::store::Found;
-use graph::build::{HalvesOf, Made};
-use graph::operation::{Op, Terminal};
-use graph::{build, operation};
+use crate::store::Memo;
+use graph::build::TableMut;
+use graph::operation::Op;
+use graph::table::HalvesOf;
 
-// The number of an operation of two numbers, over the columns from column k on. The memo is asked, and told, at the columns
-// that are taken apart.
-#[cycle(apply_by_halves)]
-pub fn apply(
-    op: Op,
-    level: &mut [u16],
-    low: &mut [u16],
-    high: &mut [u16],
-    memo: &mut [u64],
-    columns: u16,
-    count: usize,
-    k: u16,
-    a: u16,
-    b: u16,
-) -> Made
-    requires { RootedTwice columns count level.old low.old high.old k a b × Holds columns count level.old low.old high.old memo.old }
-    ensures { ((m : ℕ) → k + m ≡ columns → MadeOf columns count level.old low.old high.old level.new low.new high.new k m (joined (op_of op) m (fn_of (table_of level.old low.old high.old) k m a) (fn_of (table_of level.old low.old high.old) k m b)) result) × HoldsAfter columns level.new low.new high.new memo.new result }
-{
-    if let Terminal::Known(x) = operation::known(op, a, b) {
-        return Made::Done(x, count);
-    }
-    let first = build::split(level, low, high, k, a);
-    let second = build::split(level, low, high, k, b);
-    if first.low == first.high {
-        if second.low == second.high {
-            return apply(
-                op,
-                level,
-                low,
-                high,
-                memo,
-                columns,
-                count,
-                k + 1,
-                first.low,
-                second.low,
-            );
-        }
-    }
-    if let Found::Is(x) = store::recall(memo, op, a, b, k) {
-        return Made::Done(x, count);
-    }
-    by_halves(
-        op, level, low, high, memo, columns, count, k, a, b, first, second,
-    )
+// A table that is lent to be built in, and the memo of its operations.
+#[derive(Drop)]
+pub struct Operations<'o, 't> {
+    pub table: &'o mut TableMut<'t>,
+    pub memo: Memo,
 }
 
-// The same by the halves of both numbers: the node of the halves' results, which the memo takes.
-#[cycle(apply_by_halves)]
-fn by_halves(
-    op: Op,
-    level: &mut [u16],
-    low: &mut [u16],
-    high: &mut [u16],
-    memo: &mut [u64],
-    columns: u16,
-    count: usize,
-    k: u16,
-    a: u16,
-    b: u16,
-    first: HalvesOf,
-    second: HalvesOf,
-) -> Made
-    requires { Halved columns count level.old low.old high.old memo.old k a b first.low first.high second.low second.high }
-    ensures { ((m : ℕ) → k + m ≡ columns → MadeOf columns count level.old low.old high.old level.new low.new high.new k m (joined (op_of op) m (fn_of (table_of level.old low.old high.old) k m a) (fn_of (table_of level.old low.old high.old) k m b)) result) × HoldsAfter columns level.new low.new high.new memo.new result }
-{
-    let Made::Done(x, c) = apply(
-        op,
-        level,
-        low,
-        high,
-        memo,
-        columns,
-        count,
-        k + 1,
-        first.low,
-        second.low,
-    ) else {
-        return Made::Full;
-    };
-    let Made::Done(y, d) = apply(
-        op,
-        level,
-        low,
-        high,
-        memo,
-        columns,
-        c,
-        k + 1,
-        first.high,
-        second.high,
-    ) else {
-        return Made::Full;
-    };
-    let Made::Done(z, e) = build::make(level, low, high, columns, d, k, x, y) else {
-        return Made::Full;
-    };
-    store::remember(memo, op, a, b, k, z);
-    Made::Done(z, e)
+impl Operations<'_, '_> {
+    // The number of an operation of two numbers, over the columns from column k on, or none where there is no room for it. The
+    // memo is asked, and told, at the columns that are taken apart.
+    // Kept: the steps of `TableMut::apply` once more, since the memo is asked between them; a trait over both would have every
+    // table ask a memo that it has not.
+    #[cycle(apply_by_halves)]
+    pub fn apply(&mut self, op: Op, k: u16, a: u16, b: u16) -> Option<u16>
+        requires roots { RootsIn self.old.table.now k a b }
+        requires memo { HoldsIn self.old }
+        ensures same { SameTable self.old self.new }
+        ensures made { (m : ℕ) → k + m ≡ self.old.table.now.columns → MadeIn self.old.table.now self.new.table.now k m (joined (op_of op) m (fn_of (table self.old.table.now) k m a) (fn_of (table self.old.table.now) k m b)) result }
+        ensures memo { HoldsAfterIn self.new result }
+    {
+        let known = op.known(a, b);
+        if known.is_some() {
+            return known;
+        }
+        let first = self.table.reading().split(k, a);
+        let second = self.table.reading().split(k, b);
+        if first.low == first.high && second.low == second.high {
+            return self.apply(op, k + 1, first.low, second.low);
+        }
+        let found = self.memo.recall(op, a, b, k);
+        if found.is_some() {
+            return found;
+        }
+        self.by_halves(op, k, a, b, first, second)
+    }
+
+    // The same by the halves of both numbers: the node of the halves' results, which the memo takes.
+    #[cycle(apply_by_halves)]
+    fn by_halves(
+        &mut self,
+        op: Op,
+        k: u16,
+        a: u16,
+        b: u16,
+        first: HalvesOf,
+        second: HalvesOf,
+    ) -> Option<u16>
+        requires { HalvedIn self.old k a b first second }
+        ensures same { SameTable self.old self.new }
+        ensures made { (m : ℕ) → k + m ≡ self.old.table.now.columns → MadeIn self.old.table.now self.new.table.now k m (joined (op_of op) m (fn_of (table self.old.table.now) k m a) (fn_of (table self.old.table.now) k m b)) result }
+        ensures memo { HoldsAfterIn self.new result }
+    {
+        let x = self.apply(op, k + 1, first.low, second.low)?;
+        let y = self.apply(op, k + 1, first.high, second.high)?;
+        let z = self.table.make(k, x, y)?;
+        self.memo.remember(op, a, b, k, z);
+        Some(z)
+    }
 }
