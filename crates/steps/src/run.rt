@@ -1,44 +1,33 @@
 // Operations on the node table one after the other.
 ghost use Rattle.std.specs.Prelude.{◌≡◌, ℕ, ◌+◌};
-ghost use Rattle.steps.specs.Run.{FourRoots, TwoOf, result_of};
-ghost use Rattle.steps.specs.Step.{HoldsAfterBoth};
-ghost use Rattle.memo.specs.Memo.{Holds};
+ghost use Rattle.memo.specs.Memo.{SameTable, HoldsIn, HoldsAfterIn};
+ghost use Rattle.steps.specs.Run.{FourRootsIn, TwoIn};
 
-use graph::build::Made;
 use graph::operation::Op;
-use memo::build;
+use memo::build::Operations;
 
-// Two numbers with the count of records in use after them, or no room for what they need.
+// An operation with its two operands.
 #[derive(Clone, Copy)]
-pub enum Both {
-    Done(u16, u16, usize),
-    Full,
+pub struct Task {
+    pub op: Op,
+    pub a: u16,
+    pub b: u16,
 }
 
-// Two operations over the columns from column k on.
+// Two operations over the columns from column k on, and both numbers; none where there is no room for what they need.
 pub fn two(
-    level: &mut [u16],
-    low: &mut [u16],
-    high: &mut [u16],
-    memo: &mut [u64],
-    columns: u16,
-    count: usize,
+    operations: &mut Operations<'_, '_>,
     k: u16,
-    op: Op,
-    a: u16,
-    b: u16,
-    then: Op,
-    d: u16,
-    e: u16,
-) -> Both
-    requires { FourRoots columns count level.old low.old high.old k a b d e × Holds columns count level.old low.old high.old memo.old }
-    ensures { ((m : ℕ) → k + m ≡ columns → TwoOf columns count level.old low.old high.old level.new low.new high.new k m (result_of op level.old low.old high.old k m a b) (result_of then level.old low.old high.old k m d e) result) × HoldsAfterBoth columns level.new low.new high.new memo.new result }
+    first: Task,
+    then: Task,
+) -> Option<(u16, u16)>
+    requires roots { FourRootsIn operations.old k first then }
+    requires memo { HoldsIn operations.old }
+    ensures same { SameTable operations.old operations.new }
+    ensures made { (m : ℕ) → k + m ≡ operations.old.table.now.columns → TwoIn operations.old operations.new k m first then result }
+    ensures memo { HoldsAfterIn operations.new result }
 {
-    let Made::Done(x, c) = build::apply(op, level, low, high, memo, columns, count, k, a, b) else {
-        return Both::Full;
-    };
-    let Made::Done(y, i) = build::apply(then, level, low, high, memo, columns, c, k, d, e) else {
-        return Both::Full;
-    };
-    Both::Done(x, y, i)
+    let x = operations.apply(first.op, k, first.a, first.b)?;
+    let y = operations.apply(then.op, k, then.a, then.b)?;
+    Some((x, y))
 }

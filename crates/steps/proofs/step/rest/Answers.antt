@@ -1,20 +1,26 @@
 -- `steps::step::rest` meets its contract: what the halves leave, then both joined.
-use Rattle.steps.specs.Step.{HoldsAfterBoth}
-use Rattle.steps.proofs.Memos.{holds-both}
-use Rattle.steps.proofs.Stepping.{TwoPromise, left-roots, rest_full, top-roots, rest-done}
+use Rattle.memo.specs.Memo.{HoldsAfter}
+use Rattle.steps.proofs.Runs.{TwoPromise}
+use Rattle.steps.proofs.Stepping.{rest_full, top-roots, rest-done}
 use Rattle.steps.proofs.step.rest.Goals as goal
 
-pub two-requires : goal.two-requires
-two-requires c = (left-roots _ _ _ _ _ _ _ _ _ _ _ _ c.requires.0, c.requires.1)
-
-pub returns-in_default : goal.returns-in_default
-unfolding TwoPromise HoldsAfterBoth
-returns-in_default c = (rest_full _ _ _ _ _ _ _ _ _ _ _ _ c.requires.0 _ _ _ c.two.result c.two.ensures.0 c.in_default.is, tt)
-
-pub two-requires-2 : goal.two-requires-2
+pub returns-in_err-r0-clause-left : goal.returns-in_err-r0-clause-left
 unfolding TwoPromise
-two-requires-2 c = (top-roots _ _ _ _ _ _ _ _ _ _ _ _ c.requires.0 _ _ _ c.two.result c.two.ensures.0 _ _ _ c.in-Done.is, holds-both _ _ _ _ _ c.in-Done.is c.two.ensures.1)
+returns-in_err-r0-clause-left c =
+    rw c.from_residual.ensures
+    (rest_full c.args.operations.now.table.now _ c.args.kept _ _ c.requires.roots c.two.new.operations.table.now c.in_err-r0.ensures.made)
 
-pub returns : goal.returns
+pub two-requires-2-clause-roots : goal.two-requires-2-clause-roots
 unfolding TwoPromise
-returns c = (rest-done _ _ _ _ _ _ _ _ _ _ _ _ c.requires.0 _ _ _ c.two.result c.two.ensures.0 _ _ _ c.in-Done.is _ _ _ c.two-2.result c.two-2.ensures.0, c.two-2.ensures.1)
+two-requires-2-clause-roots c =
+    top-roots c.args.operations.now.table.now _ c.args.kept _ _ c.requires.roots c.two.new.operations.table.now c.two.ensures.same.slices.columns _ c.in_ok-r0.ensures.made
+
+pub two-requires-2-clause-memo : goal.two-requires-2-clause-memo
+unfolding HoldsAfter
+two-requires-2-clause-memo c = c.in_ok-r0.ensures.memo
+
+pub returns-clause-left : goal.returns-clause-left
+unfolding TwoPromise
+returns-clause-left c =
+    rest-done c.args.operations.now.table.now _ c.args.kept _ _ c.requires.roots c.two.new.operations.table.now c.two.ensures.same.slices.columns _ c.in_ok-r0.ensures.made
+    c.two-2.new.operations.table.now _ c.two-2.ensures.made
