@@ -1,9 +1,9 @@
 -- What is known between two turns of a copy, and how a turn, the last one and the room's end go on from it.
 use mathlib.Core.Path.{◌≡◌, refl, sym, ap, ◌∙◌}
 use mathlib.Core.List.{List}
-use Prim.Native.Nat.{ℕ, suc, ◌+◌, ◌-◌, ◌<◌, ◌≤◌}
+use Prim.Native.Nat.{ℕ, suc, ◌+◌, ◌-◌, ◌<◌, ◌≤◌, min}
 use native.Mathlib.Omega.{arith}
-use lib.ListN.{length, get_or, set, drop, length-set, drop_of_length-le}
+use lib.ListN.{length, get_or, set, drop, length-set, length-drop}
 use lib.Seq.{sets, drop-cons, get_or-set_other}
 use Rattle.rule.specs.Cube.{Cube}
 use Rattle.listmemo.specs.Copy.{numbers_under, Copyable}
@@ -27,14 +27,8 @@ module _ {room₀ : List ℕ} {from : ℕ} {at : ℕ} {size : ℕ} {old : ℕ} {
 
   module _ {i : ℕ} {room : List ℕ} (s : Halfway room₀ from at size old chosen i room) where
     -- The cube to copy has not changed, so it can take the new literals.
-    pub same-cube : Copyable room₀ from at size old chosen → i < size → get_or room (from + i) 0 ≡ get_or room₀ (from + i) 0
+    same-cube : Copyable room₀ from at size old chosen → i < size → get_or room (from + i) 0 ≡ get_or room₀ (from + i) 0
     same-cube p h = s.kept (from + i) (omega (arith, p.before))
-
-    pub next_more : Copyable room₀ from at size old chosen → i < size → from + i < length room → old ≤ get_or room (from + i) 0
-    next_more p h u = omega (arith, same-cube p h, p.more i h (omega (arith, s.long)))
-
-    pub next_fits : Copyable room₀ from at size old chosen → i < size → from + i < length room → get_or room (from + i) 0 - old + chosen < 4294967296
-    next_fits p h u = omega (arith, same-cube p h, p.fits i h (omega (arith, s.long)))
 
     next-cube : Copyable room₀ from at size old chosen → i < size → at + i < length room → (w : ℕ) (cs : List Cube) → length cs ≡ size → sets room₀ from (numbers_under old w cs) ≡ room₀ → get_or room (from + i) 0 - old + chosen ≡ get_or (numbers_under chosen w cs) i 0
     next-cube p h u w cs e q =
@@ -63,11 +57,12 @@ module _ {room₀ : List ℕ} {from : ℕ} {at : ℕ} {size : ℕ} {old : ℕ} {
         }
 
     -- No cube is left, or the room ends.
-    pub halfway_done : size ≤ i → (w : ℕ) (cs : List Cube) → length cs ≡ size → sets room₀ from (numbers_under old w cs) ≡ room₀ → room ≡ sets room₀ at (numbers_under chosen w cs)
+    pub halfway_done : min size (length room₀ - at) ≤ i → (w : ℕ) (cs : List Cube) → length cs ≡ size → sets room₀ from (numbers_under old w cs) ≡ room₀ → room ≡ sets room₀ at (numbers_under chosen w cs)
     halfway_done h w cs e q =
-        ap (λ xs. sets room (at + i) xs)
-        (sym (drop_of_length-le (numbers_under chosen w cs) {i = i} (omega (arith, under-length chosen w cs)))) ∙
+        sym (sets_out room (at + i) (drop i (numbers_under chosen w cs))
+        (λ p. omega (arith, s.long, under-length chosen w cs, length-drop i (numbers_under chosen w cs)))) ∙
         s.rest w cs e q
 
+    -- The room ends where its length is reached.
     pub halfway_ends : length room ≤ at + i → (w : ℕ) (cs : List Cube) → length cs ≡ size → sets room₀ from (numbers_under old w cs) ≡ room₀ → room ≡ sets room₀ at (numbers_under chosen w cs)
-    halfway_ends h w cs e q = sym (sets_out room (at + i) (drop i (numbers_under chosen w cs)) h) ∙ s.rest w cs e q
+    halfway_ends h = halfway_done (omega (arith, h, s.long))

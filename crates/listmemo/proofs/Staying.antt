@@ -1,11 +1,12 @@
 -- The memo of lists stays right: records are only added, and cubes are only put down from the place on, which is past every
--- copy. A memo of zeros is right, since no first word is 0.
+-- copy. A memo without entries is right, since no key is 0.
 use mathlib.Core.Path.{◌≡◌, sym, ap, ◌∙◌, subst, subst⁻¹}
 use mathlib.Core.List.{List}
 use Prim.Native.Nat.{ℕ, ◌+◌, ◌^◌, ◌≤◌}
 use native.Mathlib.Omega.{arith}
-use lib.ListN.{length, replicate, length-replicate, get_or-replicate}
+use lib.ListN.{length, replicate, length-replicate}
 use lib.Seq.{sets}
+use Rattle.std.proofs.lemmas.List.Elements.{All-replicate}
 use Rattle.rule.specs.Func.{Fn}
 use Rattle.rule.specs.Nodes.{Tree, named, add_all}
 use Rattle.rule.specs.Rule.{list_of}
@@ -15,7 +16,8 @@ use Rattle.graph.specs.Sound.{Sound}
 use Rattle.graph.specs.Run.{Run}
 use Rattle.graph.proofs.Runs.{stays, stays_fn, names_stay}
 use Rattle.listmemo.specs.Copy.{numbers_under}
-use Rattle.listmemo.specs.Past.{key_of, first_word, Written, Stands, Keeps}
+use Rattle.listmemo.specs.Past.{key_of, no_entry, Written, Stands, Entry, Keeps}
+use Rattle.listmemo.specs.declared.past.Entry as entry
 use Rattle.listmemo.proofs.Writing.{under-length}
 use Rattle.listmemo.proofs.Stores.{sets_apart}
 
@@ -53,23 +55,28 @@ module _ {n : ℕ} {c : ℕ} {v : List ℕ} {l : List ℕ} {h : List ℕ} {v₁ 
             (written_stays ts xs (at + length xs) m _ _ s r t.before (t.list m q)));
       }
 
-  pub keeps_stay : {room : List ℕ} {room₁ : List ℕ} {at : ℕ} {at₁ : ℕ} {past : List ℕ} (ts : List Tree) (xs : List ℕ) → Sound n c v l h → Run n c v l h v₁ l₁ h₁ ts c₁ → room₁ ≡ sets room at xs → at₁ ≡ at + length xs → Keeps n c v l h room at past → Keeps n c₁ v₁ l₁ h₁ room₁ at₁ past
+  pub keeps_stay : {room : List ℕ} {room₁ : List ℕ} {at : ℕ} {at₁ : ℕ} {past : List entry.Entry} (ts : List Tree) (xs : List ℕ) → Sound n c v l h → Run n c v l h v₁ l₁ h₁ ts c₁ → room₁ ≡ sets room at xs → at₁ ≡ at + length xs → Keeps n c v l h room at past → Keeps n c₁ v₁ l₁ h₁ room₁ at₁ past
   keeps_stay {room} {room₁} {at} {at₁} {past} ts xs s r e p w =
       subst⁻¹ (λ t. Keeps n c₁ v₁ l₁ h₁ t at₁ past) e
       (subst⁻¹ (λ j. Keeps n c₁ v₁ l₁ h₁ (sets room at xs) j past) p
       (record {
         long = w.long;
-        each = λ i b. record { says = λ x y k g hx hy hk hg f. stands_stay ts xs s r ((w.each i b).says x y k g hx hy hk hg f) };
+        each = λ i b. record { says = λ x y k hx hy hk f. stands_stay ts xs s r ((w.each i b).says x y k hx hy hk f) };
       }))
 
--- A memo of zeros.
-first-word_not_0 : (a : ℕ) (b : ℕ) (k : ℕ) (g : ℕ) → 0 ≡ first_word a b k g → ⊥
-unfolding first_word key_of
-first-word_not_0 a b k g e = omega arith
+-- A memo without entries.
+key_not_0 : (a : ℕ) (b : ℕ) (k : ℕ) → 0 ≡ key_of a b k → ⊥
+unfolding key_of
+key_not_0 a b k e = omega arith
 
-pub keeps_none : {n : ℕ} {c : ℕ} {v : List ℕ} {l : List ℕ} {h : List ℕ} {room : List ℕ} {at : ℕ} → Keeps n c v l h room at (replicate 1536 0)
-keeps_none =
+none_right : {n : ℕ} {c : ℕ} {v : List ℕ} {l : List ℕ} {h : List ℕ} {room : List ℕ} {at : ℕ} → Entry n c v l h room at no_entry
+unfolding no_entry
+none_right = record { says = λ x y k hx hy hk f. absurd (key_not_0 x y k f) }
+
+pub keeps_none : {n : ℕ} {c : ℕ} {v : List ℕ} {l : List ℕ} {h : List ℕ} {room : List ℕ} {at : ℕ} → Keeps n c v l h room at (replicate 512 no_entry)
+keeps_none {n} {c} {v} {l} {h} {room} {at} =
+    let long : length (replicate 512 no_entry) ≡ 512 = length-replicate 512 no_entry in
     record {
-      long = length-replicate {A = ℕ} 1536 0;
-      each = λ i b. record { says = λ x y k g hx hy hk hg f. absurd (first-word_not_0 x y k g (sym (get_or-replicate {A = ℕ} 1536 i 0 0 (omega arith)) ∙ f)) };
+      long = long;
+      each = λ i b. All-replicate (Entry n c v l h room at) 512 no_entry none_right i no_entry (omega (arith, long));
     }

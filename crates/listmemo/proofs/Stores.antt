@@ -27,10 +27,12 @@ sets_again s i (x ∷ xs) =
     ap (λ t. sets (sets t (suc i) xs) (suc i) xs) (set-set s i x x) ∙
     sets_again (set s i x) (suc i) xs
 
--- Nothing is stored past the end.
-pub sets_out : (s : List ℕ) (i : ℕ) (xs : List ℕ) → length s ≤ i → sets s i xs ≡ s
+-- Nothing is stored past the end, and nothing of no list.
+pub sets_out : (s : List ℕ) (i : ℕ) (xs : List ℕ) → (0 < length xs → length s ≤ i) → sets s i xs ≡ s
 sets_out s i [] h = refl
-sets_out s i (x ∷ xs) h = sets_out (set s i x) (suc i) xs (omega (arith, length-set s i x)) ∙ set_out s i x h
+sets_out s i (x ∷ xs) h =
+    let out : length s ≤ i = h (omega arith) in
+    sets_out (set s i x) (suc i) xs (λ p. omega (arith, length-set s i x)) ∙ set_out s i x out
 
 -- What stands before the place is kept, and from the place on stands what was stored.
 get_d_before : (s : List ℕ) (i : ℕ) (xs : List ℕ) (j : ℕ) → j < i → get_or (sets s i xs) j 0 ≡ get_or s j 0

@@ -7,6 +7,7 @@ use native.Mathlib.Nat.{mul-add, mul_assoc, mul_left_comm, one-le-pow, pow-succ'
 use native.Mathlib.Omega.{arith}
 use lib.ListN.{length, set, length-append, length-map}
 use lib.Seq.{sets}
+use Rattle.std.proofs.lemmas.List.{map-append}
 use Rattle.rule.specs.Func.{Fn}
 use Rattle.rule.specs.Point.{bit}
 use Rattle.rule.specs.Cube.{Sign, sign0, sign1, dash, Cube}
@@ -39,8 +40,7 @@ under_sign chosen w s (c ∷ cs) =
 
 pub under_append : (chosen : ℕ) (w : ℕ) (xs : List Cube) (ys : List Cube) → numbers_under chosen w (xs ++ ys) ≡ numbers_under chosen w xs ++ numbers_under chosen w ys
 unfolding numbers_under
-under_append chosen w [] ys = refl
-under_append chosen w (x ∷ xs) ys = ap (λ r. (chosen + w * cube_number x) ∷ r) (under_append chosen w xs ys)
+under_append chosen w xs ys = map-append (λ c. chosen + w * cube_number c) xs ys
 
 pub under-length : (chosen : ℕ) (w : ℕ) (cs : List Cube) → length (numbers_under chosen w cs) ≡ length cs
 unfolding numbers_under

@@ -2,6 +2,7 @@
 use Rattle.std.specs.Prelude.{List, map, ℕ, ◌+◌, ◌-◌, ◌*◌, ◌^◌, ◌<◌, ◌≤◌, length, get_or}
 use Rattle.rule.specs.Cube.{Cube}
 use Rattle.rule.specs.Number.{cube_number}
+use Rattle.listmemo.specs.declared.past.Found.{Found}
 
 -- The numbers of cubes of the columns from column k on, with the literals chosen before them; w is the weight of column k.
 unfoldable pub numbers_under : ℕ → ℕ → List Cube → List ℕ
@@ -13,3 +14,6 @@ pub record Copyable (room : List ℕ) (from : ℕ) (at : ℕ) (size : ℕ) (old 
   pub place : at + size ≤ 2 ^ 32
   pub more : (i : ℕ) → i < size → from + i < length room → old ≤ get_or room (from + i) 0
   pub fits : (i : ℕ) → i < size → from + i < length room → get_or room (from + i) 0 - old + chosen < 2 ^ 32
+
+abbrev pub CopyableOf : List ℕ → Found → ℕ → ℕ → Type 0
+CopyableOf room f at chosen = Copyable room f.from at f.size f.literals chosen

@@ -1,13 +1,28 @@
-// Lists found before: 512 entries in a lent slice, each of three words. The first words of all stand first, then the second
-// ones, then the third. Two pairs of roots that meet at one place take it from each other.
-ghost use Rattle.std.specs.Prelude.{◌≡◌, ℕ, ◌<◌, ◌≤◌, List, length};
-ghost use Rattle.listmemo.specs.Past.{key_of, Stands, Keeps, PastOf, Storable};
+// Lists found before: 512 entries, each for two roots from one column on. Two pairs of roots that meet at one place take it from
+// each other.
+ghost use Rattle.std.specs.Prelude.{◌≡◌, ℕ, ◌<◌, List, replicate};
+ghost use Rattle.listmemo.specs.Past.{key_of, no_entry, Stands, Keeps, FoundOf};
 
-// The cover of a list found before, the place of its copy, its length and the literals of the copy's path; or none.
+// A list that stands in the room: its cover, the place of its first cube, its length and the literals of its path.
 #[derive(Clone, Copy)]
-pub enum Past {
-    Is(u16, usize, usize, u32),
-    Nothing,
+pub struct Found {
+    pub cover: u16,
+    pub from: usize,
+    pub size: usize,
+    pub literals: u32,
+}
+
+// An entry: the key of two roots and a column, and what was found for them. Key 0 is no entry.
+// Kept: 0 and no option, since a key is looked for first, and no question has key 0.
+#[derive(Clone, Copy)]
+pub struct Entry {
+    pub key: u64,
+    pub found: Found,
+}
+
+#[derive(Drop)]
+pub struct Past {
+    pub entries: [Entry; 512],
 }
 
 // The key of two roots, from column k on.
@@ -26,42 +41,40 @@ fn place_of(a: u16, b: u16, k: u16) -> usize
     (37 * (a as usize) + 101 * (b as usize) + 7 * (k as usize)) % 512
 }
 
-// What is known of the list of two roots, from column k on.
-pub fn find(past: &[u64], a: u16, b: u16, k: u16) -> Past
-    requires { (length past.now ≡ 1536) × (k < 64) }
-    ensures { (n c : ℕ) (v l h room : List ℕ) (at : ℕ) → Keeps n c v l h room at past.now → PastOf n c v l h room at a b k result }
-{
-    let i = place_of(a, b, k);
-    let first = past[i];
-    if first / 65536 != key_of(a, b, k) {
-        return Past::Nothing;
+impl Past {
+    // No list was found before.
+    pub fn new() -> Past
+        ensures { result.entries ≡ replicate 512 no_entry }
+    {
+        let found = Found {
+            cover: 0,
+            from: 0,
+            size: 0,
+            literals: 0,
+        };
+        Past {
+            entries: [Entry { key: 0, found }; 512],
+        }
     }
-    let span = past[512 + i];
-    let literals = past[1024 + i];
-    Past::Is(
-        (first % 65536) as u16,
-        (span / 4294967296) as usize,
-        (span % 4294967296) as usize,
-        (literals % 4294967296) as u32,
-    )
-}
 
-// A list found is kept: its cover, the place of its first cube, its length and the literals of its path.
-pub fn keep(
-    past: &mut [u64],
-    a: u16,
-    b: u16,
-    k: u16,
-    cover: u16,
-    from: usize,
-    size: usize,
-    literals: u32,
-)
-    requires { Storable k from size past.old }
-    ensures { (n c : ℕ) (v l h room : List ℕ) (at : ℕ) → Keeps n c v l h room at past.old → Stands n c v l h room at a b k cover from size literals → Keeps n c v l h room at past.new }
-{
-    let i = place_of(a, b, k);
-    past[i] = key_of(a, b, k) * 65536 + (cover as u64);
-    past[512 + i] = (from as u64) * 4294967296 + (size as u64);
-    past[1024 + i] = literals as u64;
+    // What is known of the list of two roots, from column k on.
+    pub fn find(&self, a: u16, b: u16, k: u16) -> Option<Found>
+        requires { k < 64 }
+        ensures { (n c : ℕ) (v l h room : List ℕ) (at : ℕ) → Keeps n c v l h room at self.now.entries → FoundOf n c v l h room at a b k result }
+    {
+        let entry = self.entries[place_of(a, b, k)];
+        if entry.key != key_of(a, b, k) {
+            return None;
+        }
+        Some(entry.found)
+    }
+
+    // A list found is kept.
+    pub fn keep(&mut self, a: u16, b: u16, k: u16, found: Found)
+        requires { k < 64 }
+        ensures { (n c : ℕ) (v l h room : List ℕ) (at : ℕ) → Keeps n c v l h room at self.old.entries → Stands n c v l h room at a b k found.cover found.from found.size found.literals → Keeps n c v l h room at self.new.entries }
+    {
+        let key = key_of(a, b, k);
+        self.entries[place_of(a, b, k)] = Entry { key, found };
+    }
 }
