@@ -2,4 +2,3 @@
 pub mod Cubes
 pub mod Joining
 pub mod Names
-pub mod Keeping

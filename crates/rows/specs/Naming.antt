@@ -1,29 +1,31 @@
 -- Rows named one after the other: the sets so far, the records, and what does not fit.
-use Rattle.std.specs.Prelude.{◌≡◌, List, [], ◌++◌, ℕ, ◌<◌, length}
+use Rattle.std.specs.Prelude.{◌≡◌, List, [], ◌++◌, ℕ, ◌<◌, length, Option, Some, None}
 use Rattle.rule.specs.Func.{Fn, either}
 use Rattle.rule.specs.Nodes.{nodes, add_all}
 use Rattle.rule.specs.Rows as Rows
-use Rattle.graph.specs.Table.{table_of, functions}
-use Rattle.graph.specs.Sound.{Sound, Sized}
+use Rattle.rule.specs.Cube.{cube_fn}
+use Rattle.rule.specs.Number.{signs}
+use Rattle.graph.specs.Table.{table_of, fn_of, functions}
+use Rattle.graph.specs.Sound.{Sound, Sized, Rooted, RootedTwice}
+use Rattle.graph.specs.Lent.{table}
 use Rattle.graph.specs.Run.{Run, Short, Names}
-use Rattle.graph.specs.declared.build.Made.{Made}
+use Rattle.graph.specs.declared.build.TableMut.{TableMut}
 use Rattle.line.specs.Meaning.{kind_of, out_of}
 use Rattle.line.specs.declared.meaning.Kind.{Kind}
 use Rattle.line.specs.declared.meaning.Out.{Out}
-use Rattle.memo.specs.Memo.{Holds}
+use Rattle.memo.specs.declared.build.Operations.{Operations}
 use Rattle.rows.specs.declared.naming.Part.{Part}
-use Rattle.rows.specs.declared.naming.Part.TheVariants.{On, Other, Nothing}
+use Rattle.rows.specs.declared.naming.Part.TheVariants.{On, Other}
 use Rattle.rows.specs.declared.naming.Sets.{Sets}
-use Rattle.rows.specs.declared.naming.Sets.TheVariants.{Done, Full}
 
 -- The part that a row adds to, by the code's name: besides on there is one other set, don't care or off.
-unfoldable pub part_by : Rows.Part → Part
-part_by Rows.on = On
-part_by Rows.dont_care = Other
-part_by Rows.off = Other
-part_by Rows.none = Nothing
+unfoldable pub part_by : Rows.Part → Option Part
+part_by Rows.on = Some On
+part_by Rows.dont_care = Some Other
+part_by Rows.off = Some Other
+part_by Rows.none = None
 
-unfoldable pub part_for : Kind → Out → Part
+unfoldable pub part_for : Kind → Out → Option Part
 part_for t o = part_by (Rows.part (kind_of t) (out_of o))
 
 -- Which part the other set is.
@@ -38,9 +40,9 @@ module _ (n : ℕ) (c : ℕ) (v : List ℕ) (l : List ℕ) (h : List ℕ) (v' : 
     pub run : Run n c v l h v' l' h' (nodes n f ++ nodes n (either n g f)) c'
     pub names : Names v' l' h' c' 0 n (either n g f) x
 
-  unfoldable pub JoinedOf : Made → Type 0
-  JoinedOf (Made.Done x c') = Joined x c'
-  JoinedOf Made.Full = Short n c v l h v' l' h' (nodes n f ++ nodes n (either n g f))
+  unfoldable pub JoinedOf : ℕ → Option ℕ → Type 0
+  JoinedOf c' (Some x) = Joined x c'
+  JoinedOf c' None = Short n c v l h v' l' h' (nodes n f ++ nodes n (either n g f))
 
 -- Some rows of a text of n columns and type t are named, from an empty table on: their on set and their other set have
 -- numbers, and the records are exactly the nodes that the rows name, in order.
@@ -56,11 +58,38 @@ pub record Unnamed (n : ℕ) (t : Rows.Kind) (rows : List Rows.Row) (room : ℕ)
   pub lacks : room < length (add_all [] (Rows.named_after n t [] rows))
 
 module _ (n : ℕ) (t : Rows.Kind) (rows : List Rows.Row) (room : ℕ) (v : List ℕ) (l : List ℕ) (h : List ℕ) where
-  unfoldable pub NamedOf : Sets → Type 0
-  NamedOf (Done on other c) = (length v ≡ room) × Named n t rows v l h on other c
-  NamedOf Full = (length v ≡ room) × Unnamed n t rows room v l h
+  unfoldable pub NamedOf : ℕ → Option Sets → Type 0
+  NamedOf c (Some s) = (length v ≡ room) × Named n t rows v l h s.on s.other c
+  NamedOf c None = (length v ≡ room) × Unnamed n t rows room v l h
 
--- The memo holds in the table that naming a row leaves. Where there is no room, nothing is said of it.
-unfoldable pub SetsHold : ℕ → List ℕ → List ℕ → List ℕ → List ℕ → Sets → Type 0
-SetsHold n v l h memo (Done on other c) = Holds n c v l h memo
-SetsHold n v l h memo Full = Unit {0}
+-- The same of a lent table, with its memo.
+abbrev pub SoundFrom : TableMut → ℕ → Type 0
+SoundFrom t k = Rooted t.columns t.count t.level.now t.low.now t.high.now k 1
+
+abbrev pub SetIn : Operations → ℕ → Type 0
+SetIn o x =
+    let t = o.table.now in
+    Rooted t.columns t.count t.level.now t.low.now t.high.now 0 x
+
+abbrev pub SetsIn : Operations → Sets → Type 0
+SetsIn o s =
+    let t = o.table.now in
+    RootedTwice t.columns t.count t.level.now t.low.now t.high.now 0 s.on s.other
+
+abbrev pub JoinedIn : Operations → Operations → ℕ → ℕ → Option ℕ → Type 0
+JoinedIn o o' set cube r =
+    let t = o.table.now in
+    let t' = o'.table.now in
+    JoinedOf t.columns t.count t.level.now t.low.now t.high.now t'.level.now t'.low.now t'.high.now
+    (fn_of (table t) 0 t.columns set) (cube_fn t.columns (signs t.columns cube)) t'.count r
+
+abbrev pub NamedIn : Operations → Rows.Kind → List Rows.Row → Sets → Type 0
+NamedIn o k rows s =
+    let t = o.table.now in
+    Named t.columns k rows t.level.now t.low.now t.high.now s.on s.other t.count
+
+abbrev pub NamedAfterIn : Operations → Operations → Rows.Kind → List Rows.Row → Option Sets → Type 0
+NamedAfterIn o o' k rows r =
+    let t = o.table.now in
+    let t' = o'.table.now in
+    NamedOf t.columns k rows (length t.level.now) t'.level.now t'.low.now t'.high.now t'.count r

@@ -1,150 +1,94 @@
 // Naming rows: the cube of each meaningful row, the set so far that it joins, and last the upper root.
-ghost use Rattle.std.specs.Prelude.{◌≡◌, List, [], ◌∷◌, ◌++◌, length};
+#![tactic(auto, unfolding(memo::specs::Memo::HoldsAfter))]
+
+ghost use Rattle.std.specs.Prelude.{◌≡◌, List, [], ◌∷◌, ◌++◌};
 ghost use Rattle.rule.specs.Rows.{Row, upper_of};
-ghost use Rattle.rule.specs.Cube.{cube_fn};
-ghost use Rattle.rule.specs.Number.{signs};
-ghost use Rattle.graph.specs.Table.{table_of, fn_of};
-ghost use Rattle.graph.specs.Sound.{Rooted, RootedTwice};
-ghost use Rattle.graph.specs.Built.{MadeOf};
 ghost use Rattle.line.specs.Meaning.{kind_of, row_of};
-ghost use Rattle.memo.specs.Memo.{Holds, HoldsAfter};
-ghost use Rattle.rows.specs.Naming.{part_for, JoinedOf, Named, NamedOf, SetsHold};
+ghost use Rattle.graph.specs.Lent.{MadeIn};
+ghost use Rattle.memo.specs.Memo.{SameTable, HoldsIn, HoldsAfterIn};
+ghost use Rattle.rows.specs.Naming.{part_for, SetIn, SetsIn, JoinedIn, NamedIn, NamedAfterIn};
 
 use crate::cube;
-use graph::build::Made;
 use graph::operation::Op;
 use line::meaning::{Kind, Out};
-use memo::build;
+use memo::build::Operations;
 
-// The set that a row joins: on, the other one (don't care, in fr off), or none.
+// The sets that rows join: on, and the other one (don't care, in fr off).
 #[derive(Clone, Copy)]
 pub enum Part {
     On,
     Other,
-    Nothing,
 }
 
-// The on set and the other set with the count of records in use, or no room for what they need.
+// The numbers of the on set and of the other set.
 #[derive(Clone, Copy)]
-pub enum Sets {
-    Done(u16, u16, usize),
-    Full,
+pub struct Sets {
+    pub on: u16,
+    pub other: u16,
 }
 
-// The set that a row joins in a text of some type.
-fn part_of(kind: Kind, out: Out) -> Part
+// The set that a row joins in a text of some type, if any.
+#[tactic(auto, unfolding(crate::specs::Naming::part_for, crate::specs::Naming::part_by, rule::specs::Rows::part, line::specs::Meaning::kind_of, line::specs::Meaning::out_of))]
+fn part_of(kind: Kind, out: Out) -> Option<Part>
     ensures { result ≡ part_for kind out }
 {
-    match out {
-        Out::One => Part::On,
-        Out::Tilde => Part::Nothing,
-        Out::Dash => match kind {
-            Kind::F => Part::Nothing,
-            Kind::Fd => Part::Other,
-            Kind::Fr => Part::Nothing,
-        },
-        Out::Zero => match kind {
-            Kind::F => Part::Nothing,
-            Kind::Fd => Part::Nothing,
-            Kind::Fr => Part::Other,
-        },
+    match (out, kind) {
+        (Out::One, _) => Some(Part::On),
+        (Out::Dash, Kind::Fd) | (Out::Zero, Kind::Fr) => Some(Part::Other),
+        _ => None,
     }
 }
 
-// A cube, then a set with it.
-fn join_cube(
-    level: &mut [u16],
-    low: &mut [u16],
-    high: &mut [u16],
-    memo: &mut [u64],
-    columns: u16,
-    count: usize,
-    set: u16,
-    cube: u32,
-) -> Made
-    requires { Rooted columns count level.old low.old high.old 0 set × Holds columns count level.old low.old high.old memo.old }
-    ensures { JoinedOf columns count level.old low.old high.old level.new low.new high.new (fn_of (table_of level.old low.old high.old) 0 columns set) (cube_fn columns (signs columns cube)) result × HoldsAfter columns level.new low.new high.new memo.new result }
+// A cube, then a set with it; none where there is no room for them.
+fn join_cube(operations: &mut Operations<'_, '_>, set: u16, cube: u32) -> Option<u16>
+    requires set { SetIn operations.old set }
+    requires memo { HoldsIn operations.old }
+    ensures same { SameTable operations.old operations.new }
+    ensures joined { JoinedIn operations.old operations.new set cube result }
+    ensures memo { HoldsAfterIn operations.new result }
 {
-    let Made::Done(x, c) = cube::cube_from(
-        level,
-        low,
-        high,
-        columns,
-        count,
-        0,
-        cube % 65536,
-        cube / 65536,
-    ) else {
-        return Made::Full;
-    };
-    build::apply(Op::Or, level, low, high, memo, columns, c, 0, set, x)
+    let x = cube::cube_from(operations.table, 0, cube % 65536, cube / 65536)?;
+    operations.apply(Op::Or, 0, set, x)
 }
 
-// A row after those already named.
+// A row after those already named; none where there is no room for it.
 pub fn name_row(
-    level: &mut [u16],
-    low: &mut [u16],
-    high: &mut [u16],
-    memo: &mut [u64],
-    columns: u16,
-    count: usize,
+    operations: &mut Operations<'_, '_>,
     kind: Kind,
-    on: u16,
-    other: u16,
+    sets: Sets,
     cube: u32,
     out: Out,
-) -> Sets
-    requires { RootedTwice columns count level.old low.old high.old 0 on other × Holds columns count level.old low.old high.old memo.old }
-    ensures { ((seen : List Row) → Named columns (kind_of kind) seen level.old low.old high.old on other count → NamedOf columns (kind_of kind) (seen ++ (row_of columns cube out ∷ [])) (length level.old) level.new low.new high.new result) × SetsHold columns level.new low.new high.new memo.new result }
+) -> Option<Sets>
+    requires sets { SetsIn operations.old sets }
+    requires memo { HoldsIn operations.old }
+    ensures same { SameTable operations.old operations.new }
+    ensures named { (seen : List Row) → NamedIn operations.old (kind_of kind) seen sets → NamedAfterIn operations.old operations.new (kind_of kind) (seen ++ (row_of operations.old.table.now.columns cube out ∷ [])) result }
+    ensures memo { HoldsAfterIn operations.new result }
 {
     match part_of(kind, out) {
-        Part::On => {
-            let Made::Done(x, c) = join_cube(level, low, high, memo, columns, count, on, cube)
-            else {
-                return Sets::Full;
-            };
-            Sets::Done(x, other, c)
+        Some(Part::On) => {
+            let on = join_cube(operations, sets.on, cube)?;
+            Some(Sets { on, ..sets })
         }
-        Part::Other => {
-            let Made::Done(x, c) = join_cube(level, low, high, memo, columns, count, other, cube)
-            else {
-                return Sets::Full;
-            };
-            Sets::Done(on, x, c)
+        Some(Part::Other) => {
+            let other = join_cube(operations, sets.other, cube)?;
+            Some(Sets { other, ..sets })
         }
-        Part::Nothing => Sets::Done(on, other, count),
+        None => Some(sets),
     }
 }
 
-// The upper root, once all rows are named.
-pub fn name_upper(
-    level: &mut [u16],
-    low: &mut [u16],
-    high: &mut [u16],
-    memo: &mut [u64],
-    columns: u16,
-    count: usize,
-    kind: Kind,
-    on: u16,
-    other: u16,
-) -> Made
-    requires { RootedTwice columns count level.old low.old high.old 0 on other × Holds columns count level.old low.old high.old memo.old }
-    ensures { ((rows : List Row) → Named columns (kind_of kind) rows level.old low.old high.old on other count → MadeOf columns count level.old low.old high.old level.new low.new high.new 0 columns (upper_of columns (kind_of kind) rows) result) × HoldsAfter columns level.new low.new high.new memo.new result }
+// The upper root, once all rows are named; none where there is no room for it.
+pub fn name_upper(operations: &mut Operations<'_, '_>, kind: Kind, sets: Sets) -> Option<u16>
+    requires sets { SetsIn operations.old sets }
+    requires memo { HoldsIn operations.old }
+    ensures same { SameTable operations.old operations.new }
+    ensures made { (rows : List Row) → NamedIn operations.old (kind_of kind) rows sets → MadeIn operations.old.table.now operations.new.table.now 0 operations.old.table.now.columns (upper_of operations.old.table.now.columns (kind_of kind) rows) result }
+    ensures memo { HoldsAfterIn operations.new result }
 {
     match kind {
-        Kind::F => Made::Done(on, count),
-        Kind::Fd => build::apply(Op::Or, level, low, high, memo, columns, count, 0, on, other),
-        Kind::Fr => build::apply(
-            Op::Difference,
-            level,
-            low,
-            high,
-            memo,
-            columns,
-            count,
-            0,
-            1,
-            other,
-        ),
+        Kind::F => Some(sets.on),
+        Kind::Fd => operations.apply(Op::Or, 0, sets.on, sets.other),
+        Kind::Fr => operations.apply(Op::Difference, 0, 1, sets.other),
     }
 }

@@ -3,4 +3,4 @@ use Prim.Native.Nat.{◌-◌}
 use Rattle.rows.proofs.cube.+cube_from.Given as goal
 
 abbrev pub decreases-cube_from : goal.decreases-cube_from
-decreases-cube_from l = l.columns - l.k
+decreases-cube_from l = l.table.now.columns - l.k
