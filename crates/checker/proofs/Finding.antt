@@ -2,18 +2,18 @@
 -- functions whose table is searched; so the place that passes is the first, and the end of the list means that none does.
 -- What a search answers is an equation with the rule's fault, whatever its contract says: a contract that says something
 -- else is refused where the function returns.
-use mathlib.Core.Path.{◌≡◌, refl, sym, ap, ap₂, ◌∙◌, subst, subst⁻¹}
+use mathlib.Core.Path.{◌≡◌, refl, sym, ap, ap₂, ◌∙◌, subst⁻¹}
 use mathlib.Core.Bool.{Bool, true, false, not, ◌&&◌, ◌||◌}
-use mathlib.Core.List.{List, [], ◌∷◌}
+use mathlib.Core.List.{List, [], ◌∷◌, ◌++◌, append_assoc, append-nil}
 use mathlib.Core.Logic.{◌⊎◌, inl, inr}
 use mathlib.Core.Option.{Option, some, none}
-use Prim.Native.Nat.{ℕ, zero, suc, ◌+◌, ◌-◌, ◌*◌, ◌%◌, ◌/◌, ◌^◌, ◌<◌, ◌≤◌}
+use Prim.Native.Nat.{ℕ, zero, suc, ◌+◌, ◌-◌, ◌%◌, ◌/◌, ◌^◌, ◌<◌, ◌≤◌}
 use native.Mathlib.Omega.{arith}
-use lib.Pow.{pow_mono}
 use lib.Bits.{bit_xor}
 use lib.Dec.{eqb}
-use lib.ListN.{length, get_or, drop, length-map, drop_of_length-le}
-use lib.Seq.{drop-cons}
+use lib.ListN.{length, get_or, length-map}
+use Rattle.std.specs.Prelude.{Ok, Err}
+use Rattle.std.proofs.lemmas.List.{nil_from_length}
 use borrow.Author.Tests.{eq-eqb, ne_eqb, eqb-true, eqb-false}
 use Rattle.rule.specs.Func.{Fn, constant, less, within}
 use Rattle.rule.specs.Point.{odd, point_number, smallest}
@@ -28,7 +28,7 @@ use Rattle.words.specs.Contract.{FirstIn, Added}
 use Rattle.words.proofs.Answers.{answer-none, answer-some, answer_point}
 use Rattle.words.proofs.Turned.{literal_bits}
 use Rattle.words.proofs.Searches.{covered_more, twice-more, off-point, off-answer, first_point, literal_search, spare_search}
-use Rattle.checker.specs.declared.judged.Judged.TheVariants.{Accept, Off, Missing, Literal, Cube as CubeGoes}
+use Rattle.checker.specs.declared.fault.Fault.TheVariants.{Off, Missing, Literal, Cube as CubeGoes}
 use Rattle.checker.specs.Judging.{judged_as, judged_fault, place_number}
 use Rattle.checker.specs.Contract.{cubes, off_words, column_goes, GoesFound, ColumnFound, Formed, NoneOff, Covered}
 
@@ -53,7 +53,7 @@ one_more P i before here j h = go (which (eqb j i))
 pub below_none : (P : ℕ → Type 0) (j : ℕ) → j < 0 → P j
 below_none P j h = let z : ⊥ = omega arith in absurd z
 
-none_accepts : judged_fault none ≡ Accept
+none_accepts : judged_fault none ≡ Ok tt
 unfolding judged_fault judged_as first_fault
 none_accepts = refl
 
@@ -96,14 +96,16 @@ module _ (m : ℕ) (xs list : List ℕ) where
         ap (λ c. found_number (smallest m (less m (cube_fn m c) U))) (sym (cube-at m list i h)) in
         answer_point o (λ z. n (q ∙ z)) ∙ ap (λ y. y - 1) (sym q)
 
-    pub off-here : (r ≡ 0 → ⊥) → (L U : Fn m) → xs ≡ off_words m U → Off (i + 1) (r - 1) ≡ judged_fault (fault_a m L U (cubes m list))
+    pub off-here : (q : ℕ) → r ≡ q + 1 → (L U : Fn m) → xs ≡ off_words m U → Err (Off (i + 1) q) ≡ judged_fault (fault_a m L U (cubes m list))
     unfolding fault_a fault judged_fault judged_as first_fault
-    off-here n L U e =
+    off-here q b L U e =
+        let n : r ≡ 0 → ⊥ = λ z. let x : ⊥ = omega arith in x in
+        let k : r - 1 ≡ q = omega arith in
         sym
         (ap (λ o. judged_fault (fault (λ j. off (j + 1) (point_number (off_point m L U (cubes m list) j))) o)) (off-first n L U e) ∙
-        ap (Off (i + 1)) (off-number n L U e))
+        ap (λ y. judged_as (off (i + 1) y)) (off-number n L U e ∙ k))
 
-  pub off_end : (i : ℕ) → OffPassed m xs list i → length list ≤ i → (L U : Fn m) → xs ≡ off_words m U → Accept ≡ judged_fault (fault_a m L U (cubes m list))
+  pub off_end : (i : ℕ) → OffPassed m xs list i → length list ≤ i → (L U : Fn m) → xs ≡ off_words m U → Ok tt ≡ judged_fault (fault_a m L U (cubes m list))
   unfolding fault_a fault
   off_end i p h L U e =
       sym
@@ -113,7 +115,7 @@ module _ (m : ℕ) (xs list : List ℕ) where
 
 -- (b) The smallest point of the table, if there is one.
 module _ (m : ℕ) (xs : List ℕ) (r : ℕ) (a : FirstIn m 0 0 xs r) where
-  pub missing-none : r ≡ 0 → (L U : Fn m) (cs : List Cube) → xs ≡ words m (less m L (covered m cs)) → Accept ≡ judged_fault (fault_b m L U cs)
+  pub missing-none : r ≡ 0 → (L U : Fn m) (cs : List Cube) → xs ≡ words m (less m L (covered m cs)) → Ok tt ≡ judged_fault (fault_b m L U cs)
   unfolding fault_b fault
   missing-none z L U cs e =
       let f = less m L (covered m cs) in
@@ -121,14 +123,16 @@ module _ (m : ℕ) (xs : List ℕ) (r : ℕ) (a : FirstIn m 0 0 xs r) where
       (ap (λ o. judged_fault (fault (λ p. missing (point_number p)) o)) (answer-none (smallest m f) (sym (first_point m f a e) ∙ z)) ∙
       none_accepts)
 
-  pub missing-some : (r ≡ 0 → ⊥) → (L U : Fn m) (cs : List Cube) → xs ≡ words m (less m L (covered m cs)) → Missing (r - 1) ≡ judged_fault (fault_b m L U cs)
+  pub missing-some : (p : ℕ) → r ≡ p + 1 → (L U : Fn m) (cs : List Cube) → xs ≡ words m (less m L (covered m cs)) → Err (Missing p) ≡ judged_fault (fault_b m L U cs)
   unfolding fault_b fault judged_fault judged_as first_fault
-  missing-some n L U cs e =
+  missing-some p b L U cs e =
+      let n : r ≡ 0 → ⊥ = λ z. let x : ⊥ = omega arith in x in
+      let k : r - 1 ≡ p = omega arith in
       let o = smallest m (less m L (covered m cs)) in
       let q : r ≡ found_number o = first_point m (less m L (covered m cs)) a e in
       sym
       (ap (λ o. judged_fault (fault (λ p. missing (point_number p)) o)) (answer-some o (λ z. n (q ∙ z))) ∙
-      ap Missing (answer_point o (λ z. n (q ∙ z)) ∙ ap (λ y. y - 1) (sym q)))
+      ap (λ y. judged_as (missing y)) (answer_point o (λ z. n (q ∙ z)) ∙ ap (λ y. y - 1) (sym q) ∙ k))
 
 -- (c) Whether a column's literal can go.
 module _ (m k x : ℕ) (xs : List ℕ) (t : Bool) (column : k < m) (e : t ≡ (odd (x % 65536 / 2 ^ k) || odd (x / 65536 / 2 ^ k))) where
@@ -242,19 +246,21 @@ module _ (m : ℕ) (xs list : List ℕ) where
           before = p.passed L U e w g;
         })
 
-    pub literal-here : (r ≡ 0 → ⊥) → (L U : Fn m) → xs ≡ off_words m U → Formed m list → NoneOff m U list
-        → Literal (i + 1) (r - 1) ≡ judged_fault (fault_c m L U (cubes m list))
+    pub literal-here : (k : ℕ) → r ≡ k + 1 → (L U : Fn m) → xs ≡ off_words m U → Formed m list → NoneOff m U list
+        → Err (Literal (i + 1) k) ≡ judged_fault (fault_c m L U (cubes m list))
     unfolding fault_c fault judged_fault judged_as first_fault
-    literal-here n L U e w g =
+    literal-here k b L U e w g =
+        let n : r ≡ 0 → ⊥ = λ z. let x : ⊥ = omega arith in x in
+        let d : r - 1 ≡ k = omega arith in
         let o = first (can_go m L U (cubes m list) i) m in
         let q : r ≡ place_number o = column-told L U e w g in
         sym
         (ap (λ o. judged_fault (fault (λ j. literal (j + 1) (found (first (can_go m L U (cubes m list) j) m) 0)) o))
         (literal-first n L U e w g) ∙
-        ap (Literal (i + 1)) (place_is o (λ z. n (q ∙ z)) ∙ ap (λ y. y - 1) (sym q)))
+        ap (λ y. judged_as (literal (i + 1) y)) (place_is o (λ z. n (q ∙ z)) ∙ ap (λ y. y - 1) (sym q) ∙ d))
 
   pub literal_end : (i : ℕ) → LiteralPassed m xs list i → length list ≤ i → (L U : Fn m) → xs ≡ off_words m U → Formed m list → NoneOff m U list
-      → Accept ≡ judged_fault (fault_c m L U (cubes m list))
+      → Ok tt ≡ judged_fault (fault_c m L U (cubes m list))
   unfolding fault_c fault
   literal_end i p h L U e w g =
       sym
@@ -286,7 +292,7 @@ module _ (m : ℕ) (xs list : List ℕ) where
         }
 
     pub cube-here : r ≡ 0 → (L U : Fn m) → xs ≡ words m (less m L (covered_twice m (cubes m list))) → within m L (covered m (cubes m list)) ≡ true
-        → CubeGoes (i + 1) ≡ judged_fault (fault_d m L U (cubes m list))
+        → Err (CubeGoes (i + 1)) ≡ judged_fault (fault_d m L U (cubes m list))
     unfolding fault_d fault judged_fault judged_as first_fault
     cube-here z L U e w =
         sym
@@ -298,7 +304,7 @@ module _ (m : ℕ) (xs list : List ℕ) where
         })))
 
   pub cube_end : (i : ℕ) → CubePassed m xs list i → length list ≤ i → (L U : Fn m) → xs ≡ words m (less m L (covered_twice m (cubes m list))) → within m L (covered m (cubes m list)) ≡ true
-      → Accept ≡ judged_fault (fault_d m L U (cubes m list))
+      → Ok tt ≡ judged_fault (fault_d m L U (cubes m list))
   unfolding fault_d fault
   cube_end i p h L U e w =
       sym
@@ -306,76 +312,48 @@ module _ (m : ℕ) (xs list : List ℕ) where
       (no_first (spare m L U (cubes m list)) (length (cubes m list))
       (λ j l. p.passed L U e w j (omega (arith, cubes-long m list)))) ∙ none_accepts)
 
--- The tables of what the cubes from place i on cover.
-pub record Covering (m : ℕ) (list : List ℕ) (i : ℕ) (once again : List ℕ) : Type 0 where
-  pub place : i ≤ length list
+-- The tables of what the cubes cover that were taken from the end of a list, of which the rest is left.
+pub record Covering (m : ℕ) (list rest : List ℕ) (once again : List ℕ) : Type 0 where
+  pub taken : List ℕ
+  pub whole : list ≡ rest ++ taken
   pub first : length once ≡ size m
   pub second : length again ≡ size m
-  pub covers : once ≡ words m (covered m (cubes m (drop i list)))
-  pub twice : again ≡ words m (covered_twice m (cubes m (drop i list)))
+  pub covers : once ≡ words m (covered m (cubes m taken))
+  pub twice : again ≡ words m (covered_twice m (cubes m taken))
 
 module _ (m : ℕ) (list : List ℕ) where
-  pub covering_start : {a b : List ℕ} → length a ≡ size m → length b ≡ size m → a ≡ words m (constant m false) → b ≡ words m (constant m false)
-      → Covering m list (length list) a b
+  pub covering_start : {rest a b : List ℕ} → rest ≡ list → length a ≡ size m → length b ≡ size m
+      → a ≡ words m (constant m false) → b ≡ words m (constant m false) → Covering m list rest a b
   unfolding covered covered_twice
-  covering_start {a} {b} p q e d =
-      record {
-        place = omega arith;
-        first = p;
-        second = q;
-        covers = e ∙ ap (λ xs. words m (covered m (cubes m xs))) (sym all);
-        twice = d ∙ ap (λ xs. words m (covered_twice m (cubes m xs))) (sym all);
-      }
-    where
-      all : drop (length list) list ≡ []
-      all = let h : length list ≤ length list = omega arith in drop_of_length-le list h
+  covering_start {rest} r p q e d =
+      record { taken = []; whole = sym r ∙ sym (append-nil rest); first = p; second = q; covers = e; twice = d }
 
-  pub covering_next : (i : ℕ) {a b a' b' : List ℕ} → 0 < i → Covering m list i a b
-      → Added m (get_or list (i - 1) 0 % 65536) (get_or list (i - 1) 0 / 65536) a b a' b' → length a' ≡ length a → length b' ≡ length b
-      → Covering m list (i - 1) a' b'
+  pub covering_next : {rest rest' a b a' b' : List ℕ} (x : ℕ) → Covering m list rest a b → rest ≡ rest' ++ (x ∷ [])
+      → Added m (x % 65536) (x / 65536) a b a' b' → length a' ≡ length a → length b' ≡ length b → Covering m list rest' a' b'
   unfolding signs
-  covering_next i {a} {b} {a'} {b'} h p d ka kb =
+  covering_next {rest' = rest'} x p r d ka kb =
       record {
-        place = omega (arith, p.place);
+        taken = x ∷ p.taken;
+        whole = p.whole ∙ ap (λ l. l ++ p.taken) r ∙ append_assoc rest' (x ∷ []) p.taken;
         first = ka ∙ p.first;
         second = kb ∙ p.second;
-        covers = covered_more m o z (cubes m (drop i list)) d p.covers ∙ ap (λ xs. words m (covered m (cubes m xs))) (sym here);
-        twice = twice-more m o z (cubes m (drop i list)) d p.covers p.twice ∙ ap (λ xs. words m (covered_twice m (cubes m xs))) (sym here);
+        covers = covered_more m (x % 65536) (x / 65536) (cubes m p.taken) d p.covers;
+        twice = twice-more m (x % 65536) (x / 65536) (cubes m p.taken) d p.covers p.twice;
       }
-    where
-      o : ℕ
-      o = get_or list (i - 1) 0 % 65536
 
-      z : ℕ
-      z = get_or list (i - 1) 0 / 65536
-
-      here : drop (i - 1) list ≡ get_or list (i - 1) 0 ∷ drop i list
-      here =
-          let e : suc (i - 1) ≡ i = omega arith in
-          drop-cons list (i - 1) 0 (omega (arith, p.place)) ∙ ap (λ j. get_or list (i - 1) 0 ∷ drop j list) e
-
-  pub covering_end : (i : ℕ) {a b : List ℕ} → i ≤ 0 → Covering m list i a b → Covered m list a b
-  covering_end i {a} {b} h p =
+  pub covering_end : {rest a b : List ℕ} → length rest ≡ 0 → Covering m list rest a b → Covered m list a b
+  covering_end {rest} {a} {b} h p =
+      let e : p.taken ≡ list = sym (p.whole ∙ ap (λ l. l ++ p.taken) (nil_from_length rest h)) in
       record {
-        covers = subst (λ j. a ≡ words m (covered m (cubes m (drop j list)))) e p.covers;
-        twice = subst (λ j. b ≡ words m (covered_twice m (cubes m (drop j list)))) e p.twice;
+        covers = p.covers ∙ ap (λ l. words m (covered m (cubes m l))) e;
+        twice = p.twice ∙ ap (λ l. words m (covered_twice m (cubes m l))) e;
       }
-    where
-      e : i ≡ 0
-      e = omega arith
 
 -- A bit set in one of two numbers.
-pub first_set : (a b : ℕ) → a % 2 ≡ 1 → true ≡ (odd a || odd b)
+pub first_set : (a b : ℕ) → a % 2 ≡ 1 → eqb (a % 2) 1 ≡ (odd a || odd b)
 unfolding odd
-first_set a b e = sym (ap (λ t. t || odd b) (eq-eqb (a % 2) 1 e))
+first_set a b e = let t = eq-eqb (a % 2) 1 e in t ∙ sym (ap (λ t. t || odd b) t)
 
 pub second_decides : (a b : ℕ) → (a % 2 ≡ 1 → ⊥) → eqb (b % 2) 1 ≡ (odd a || odd b)
 unfolding odd
 second_decides a b n = sym (ap (λ t. t || odd b) (ne_eqb (a % 2) 1 n))
-
--- The bit of a column, as it is shifted.
-pub bit_shifted : (k : ℕ) → k < 16 → 1 * 2 ^ k % 65536 ≡ 2 ^ k
-bit_shifted k h =
-    let l : k ≤ 15 = omega arith in
-    let p : 2 ^ k ≤ 2 ^ 15 = pow_mono l in
-    omega arith

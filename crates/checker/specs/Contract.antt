@@ -8,8 +8,8 @@ use Rattle.graph.specs.Sound.{Rooted, RootedTwice}
 use Rattle.graph.specs.Table.{table_of, fn_of}
 use Rattle.words.specs.Word.{words, size}
 use Rattle.words.specs.Faults.{covered_twice}
-use Rattle.checker.specs.declared.judged.Judged.{Judged}
-use Rattle.checker.specs.Judging.{judged_as, judged_fault, place_number}
+use Rattle.graph.specs.declared.table.TableRef.{TableRef}
+use Rattle.checker.specs.Judging.{Judged, judged_as, judged_fault, place_number}
 
 -- A number over the columns from column k on, at most six of them.
 pub record RootWord (n c : ℕ) (v l h : List ℕ) (k x : ℕ) : Type 0 where
@@ -115,3 +115,22 @@ pub record Judging (n c : ℕ) (v l h : List ℕ) (a b : ℕ) (list : List ℕ) 
 
 pub record VerdictGiven (n : ℕ) (v l h : List ℕ) (a b : ℕ) (list : List ℕ) (r : Judged) : Type 0 where
   pub verdict : r ≡ judged_as (verdict_numbers n (fn_of (table_of v l h) 0 n a) (fn_of (table_of v l h) 0 n b) list)
+
+-- The same of a lent table.
+abbrev pub RootWordIn : TableRef → ℕ → ℕ → Type 0
+RootWordIn t k x = RootWord t.columns t.count t.level.now t.low.now t.high.now k x
+
+abbrev pub RootTableIn : TableRef → ℕ → ℕ → List ℕ → Type 0
+RootTableIn t k x s = RootTable t.columns t.count t.level.now t.low.now t.high.now k x s
+
+abbrev pub RootTablesIn : TableRef → ℕ → ℕ → List ℕ → List ℕ → Type 0
+RootTablesIn t a b on off = RootTables t.columns t.count t.level.now t.low.now t.high.now a b on off
+
+abbrev pub TablesFilledIn : TableRef → ℕ → ℕ → List ℕ → List ℕ → Type 0
+TablesFilledIn t a b on off = TablesFilled t.columns t.level.now t.low.now t.high.now a b on off
+
+abbrev pub JudgingIn : TableRef → ℕ → ℕ → List ℕ → Type 0
+JudgingIn t a b list = Judging t.columns t.count t.level.now t.low.now t.high.now a b list
+
+abbrev pub VerdictGivenIn : TableRef → ℕ → ℕ → List ℕ → Judged → Type 0
+VerdictGivenIn t a b list r = VerdictGiven t.columns t.level.now t.low.now t.high.now a b list r

@@ -2,7 +2,7 @@
 #![tactic(auto)]
 
 pub mod entry;
+pub mod fault;
 pub mod faults;
 pub mod fill;
 pub mod judge;
-pub mod judged;

@@ -1,9 +1,6 @@
--- `checker::faults::cover` meets its contract. The loop's invariant: the tables are those of the cubes from `i` on. The measure is `i`.
+-- `checker::faults::cover` meets its contract. The loop's invariant: the tables are those of the cubes that were taken from the end.
 use Rattle.checker.proofs.Finding.{Covering}
 use Rattle.checker.proofs.faults.cover.Given as goal
 
-abbrev pub invariant-loop-i : goal.invariant-loop-i
-invariant-loop-i l = Covering l.columns l.list l.i l.covered l.twice
-
-abbrev pub decreases-loop-i : goal.decreases-loop-i
-decreases-loop-i l = l.i
+abbrev pub invariant-loop-cube : goal.invariant-loop-cube
+invariant-loop-cube l = Covering l.columns l.list l.cube-iterator.iter.rest.now l.covered l.twice

@@ -1,5 +1,4 @@
--- `checker::faults::first_column` meets its contract. The loop's invariant: no column before `k` has a literal that can go. The measure
--- is the columns left.
+-- `checker::faults::first_column` meets its contract. The loop's invariant: no column before `k` has a literal that can go.
 use native.Mathlib.Omega.{arith}
 use Rattle.checker.proofs.Finding.{column-start, column-next, column-here, column_end}
 use Rattle.checker.proofs.faults.first_column.Goals as goal
@@ -7,17 +6,8 @@ use Rattle.checker.proofs.faults.first_column.Goals as goal
 pub loop-k-init : goal.loop-k-init
 loop-k-init c = column-start _ _ _
 
-pub literal_goes-requires : goal.literal_goes-requires
-literal_goes-requires c = record { columns = c.requires.columns; long = c.requires.long; column = omega arith }
-
-pub overflow_add-result : goal.overflow_add-result
-overflow_add-result c = omega (arith, c.requires.columns)
-
 pub returns-then-literal_goes : goal.returns-then-literal_goes
 returns-then-literal_goes c = column-here c.args.columns c.args.off.now c.args.cube c.loop-k.k c.literal_goes.result (omega arith) c.loop-k.invariant c.literal_goes.ensures c.if-literal_goes.true
-
-pub overflow_add-k : goal.overflow_add-k
-overflow_add-k c = omega (arith, c.requires.columns)
 
 pub loop-k-preserved : goal.loop-k-preserved
 loop-k-preserved c = column-next c.args.columns c.args.off.now c.args.cube c.loop-k.k c.literal_goes.result c.loop-k.invariant c.literal_goes.ensures c.if-literal_goes.false

@@ -2,8 +2,8 @@
 use Rattle.checker.proofs.Finding.{first_set, second_decides}
 use Rattle.checker.proofs.faults.has_literal.Goals as goal
 
-pub returns-then-ones-k-eq1 : goal.returns-then-ones-k-eq1
-returns-then-ones-k-eq1 c = first_set _ _ c.if-ones-k-eq1.true
+pub returns-then-cube-k-eq1 : goal.returns-then-cube-k-eq1
+returns-then-cube-k-eq1 c = first_set _ _ c.if-cube-k-eq1.true
 
-pub returns : goal.returns
-returns c = second_decides _ _ c.if-ones-k-eq1.false
+pub returns-else-cube-k-eq1 : goal.returns-else-cube-k-eq1
+returns-else-cube-k-eq1 c = second_decides _ _ c.if-cube-k-eq1.false
