@@ -1,12 +1,13 @@
 -- What the calls of a step ask, and what is left when one of them does not fit.
-use mathlib.Core.Path.{◌≡◌, ap, ◌∙◌, subst, subst⁻¹}
+use mathlib.Core.Path.{◌≡◌, ap, ◌∙◌, subst}
 use mathlib.Core.Bool.{true}
 use mathlib.Core.List.{List, ◌++◌}
 use Prim.Native.Nat.{ℕ, suc, ◌+◌, ◌*◌, ◌^◌, ◌≤◌}
-use native.Mathlib.Nat.{pow-succ', pow-le-pow_right}
+use native.Mathlib.Nat.{pow-succ'}
 use native.Mathlib.Omega.{arith}
 use lib.ListN.{length}
 use lib.Seq.{length-sets}
+use Rattle.std.specs.Prelude.{None}
 use Rattle.rule.specs.Func.{Fn, within}
 use Rattle.rule.specs.Nodes.{nodes}
 use Rattle.rule.specs.Cube.{sign0, sign1}
@@ -15,9 +16,7 @@ use Rattle.rule.proofs.Cover.{list-covers, within_a, within_b, within_c}
 use Rattle.graph.specs.Run.{Short}
 use Rattle.steps.specs.Step.{KeptDone, SixRoots, named_left, RestOf}
 use Rattle.listmemo.specs.Copy.{numbers_under}
-use Rattle.list.specs.Generating.{named_a, named_b, named_rest, named_c, Listable, Expandable, ListsFull, ListedFull}
-use Rattle.steps.specs.declared.run.Both.{Both}
-use Rattle.steps.specs.declared.run.Both.TheVariants as both
+use Rattle.list.specs.Generating.{named_a, named_b, named_rest, named_c, Listable, ListsFull, ListedFull}
 use Rattle.graph.proofs.Runs.{run_short, short-more}
 use Rattle.listmemo.proofs.Writing.{list-bound}
 use Rattle.list.proofs.Listing.{spread, next-listable, short_a, short_b, short-rest, StateA, StateB, StateR}
@@ -83,8 +82,8 @@ module _ {n : ℕ} {c : ℕ} {v : List ℕ} {l : List ℕ} {h : List ℕ} {at : 
   unfolding named_a
   full_a K A = record { short = short_a m L U (short-more _ _ (run_short _ _ K.run A.short)); room-kept = A.room-kept }
 
-  pub full_b : {room : List ℕ} {v₁ : List ℕ} {l₁ : List ℕ} {h₁ : List ℕ} {room₁ : List ℕ} {v₂ : List ℕ} {l₂ : List ℕ} {h₂ : List ℕ} {room₂ : List ℕ} {l0 : ℕ} {l1 : ℕ} {u0 : ℕ} {u1 : ℕ} {p1 : ℕ} {g0 : ℕ} {c₁ : ℕ} {at₁ : ℕ} {x : ℕ} {z : ℕ} → StateA n c v l h room at chosen w k m L U v₁ l₁ h₁ room₁ l0 l1 u0 u1 p1 g0 c₁ at₁ →
-      ListedFull n c₁ v₁ l₁ h₁ v₂ l₂ h₂ room₁ room₂ at₁ x z (k + 1) m (p1_of m (list_of m) L U) U.1 → ListsFull n c v l h v₂ l₂ h₂ room room₂ at chosen w k m L U
+  pub full_b : {room : List ℕ} {v₁ : List ℕ} {l₁ : List ℕ} {h₁ : List ℕ} {room₁ : List ℕ} {v₂ : List ℕ} {l₂ : List ℕ} {h₂ : List ℕ} {room₂ : List ℕ} {l0 : ℕ} {l1 : ℕ} {u0 : ℕ} {u1 : ℕ} {p1 : ℕ} {g0 : ℕ} {c₁ : ℕ} {at₁ : ℕ} → StateA n c v l h room at chosen w k m L U v₁ l₁ h₁ room₁ l0 l1 u0 u1 p1 g0 c₁ at₁ →
+      ListedFull n c₁ v₁ l₁ h₁ v₂ l₂ h₂ room₁ room₂ at₁ (chosen + w) (2 * w) (k + 1) m (p1_of m (list_of m) L U) U.1 → ListsFull n c v l h v₂ l₂ h₂ room room₂ at chosen w k m L U
   unfolding named_b
   full_b {room = room} A B =
       record {
@@ -92,17 +91,16 @@ module _ {n : ℕ} {c : ℕ} {v : List ℕ} {l : List ℕ} {h : List ℕ} {at : 
         room-kept = B.room-kept ∙ ap length A.written ∙ length-sets room at (numbers_under chosen w (put sign0 (list_a m (list_of m) L U)));
       }
 
-  pub full_rest : {room : List ℕ} {v₁ : List ℕ} {l₁ : List ℕ} {h₁ : List ℕ} {room₁ : List ℕ} (v₂ : List ℕ) (l₂ : List ℕ) (h₂ : List ℕ) {l0 : ℕ} {l1 : ℕ} {u0 : ℕ} {u1 : ℕ} {g0 : ℕ} {g1 : ℕ} {c₁ : ℕ} {at₁ : ℕ} (r : Both) → r ≡ both.Full → StateB n c v l h room at chosen w k m L U v₁ l₁ h₁ room₁ l0 l1 u0 u1 g0 g1 c₁ at₁ →
-      RestOf n c₁ v₁ l₁ h₁ v₂ l₂ h₂ (k + 1) m L.0 (g0_of m (list_of m) L U) L.1 (g1_of m (list_of m) L U) U.0 U.1 r → ListsFull n c v l h v₂ l₂ h₂ room room₁ at chosen w k m L U
+  pub full_rest : {room : List ℕ} {v₁ : List ℕ} {l₁ : List ℕ} {h₁ : List ℕ} {room₁ : List ℕ} {v₂ : List ℕ} {l₂ : List ℕ} {h₂ : List ℕ} {l0 : ℕ} {l1 : ℕ} {u0 : ℕ} {u1 : ℕ} {g0 : ℕ} {g1 : ℕ} {c₁ : ℕ} {at₁ : ℕ} (c₂ : ℕ) → StateB n c v l h room at chosen w k m L U v₁ l₁ h₁ room₁ l0 l1 u0 u1 g0 g1 c₁ at₁ →
+      RestOf n c₁ v₁ l₁ h₁ v₂ l₂ h₂ (k + 1) m L.0 (g0_of m (list_of m) L U) L.1 (g1_of m (list_of m) L U) U.0 U.1 c₂ None → ListsFull n c v l h v₂ l₂ h₂ room room₁ at chosen w k m L U
   unfolding RestOf named_rest named_left r0_of r1_of r0_or_r1 u0_and_u1
-  full_rest {room} {v₁} {l₁} {h₁} v₂ l₂ h₂ {c₁ = c₁} r e B t =
+  full_rest {room} {v₂ = v₂} {l₂ = l₂} {h₂ = h₂} c₂ B t =
       record {
         short =
             short-rest m L U
             (subst (Short n c v l h v₂ l₂ h₂)
             (spread (named_b m L U) (nodes m (r0_of m (list_of m) L U)) (nodes m (r1_of m (list_of m) L U)) (nodes m (r0_or_r1 m (list_of m) L U)) (nodes m (u0_and_u1 m (list_of m) L U)))
-            (run_short _ _ B.run
-            (subst (RestOf n c₁ v₁ l₁ h₁ v₂ l₂ h₂ (k + 1) m L.0 (g0_of m (list_of m) L U) L.1 (g1_of m (list_of m) L U) U.0 U.1) e t)));
+            (run_short _ _ B.run t));
         room-kept = ap length B.written ∙ length-sets room at (numbers_under chosen w (put sign0 (list_a m (list_of m) L U) ++ put sign1 (list_b m (list_of m) L U)));
       }
 
@@ -114,9 +112,3 @@ module _ {n : ℕ} {c : ℕ} {v : List ℕ} {l : List ℕ} {h : List ℕ} {at : 
         short = short-more _ _ (run_short _ _ R.run C.short);
         room-kept = C.room-kept ∙ ap length R.written ∙ length-sets room at (numbers_under chosen w (put sign0 (list_a m (list_of m) L U) ++ put sign1 (list_b m (list_of m) L U)));
       }
-
--- The weight of a column that is left is at most 2 to the 15.
-pub weight_small : {n : ℕ} {c : ℕ} {v : List ℕ} {l : List ℕ} {h : List ℕ} {at : ℕ} {chosen : ℕ} {w : ℕ} {k : ℕ} {a : ℕ} {b : ℕ} → Expandable n c v l h at chosen w k a b → w ≤ 32768
-weight_small {k = k} p =
-    subst⁻¹ (λ x. x ≤ 32768) p.listable.weight
-    (pow-le-pow_right {n = 2} (omega arith) {i = k} {j = 15} (omega (arith, p.column, p.listable.roots.sound.columns)))

@@ -1,12 +1,13 @@
 -- The generator, one law for each way out: L is 0; U is 1; the three lists or their cover do not fit; and the list.
-use mathlib.Core.Path.{◌≡◌, refl, sym, ap, ◌∙◌, subst, subst⁻¹}
+use mathlib.Core.Path.{◌≡◌, refl, sym, ap, ◌∙◌, subst⁻¹, transport}
 use mathlib.Core.Bool.{true, false}
 use mathlib.Core.List.{List, [], ◌∷◌, ◌++◌}
-use Prim.Native.Nat.{ℕ, zero, suc, ◌+◌, ◌-◌, ◌*◌, ◌<◌, ◌≤◌}
-use native.Mathlib.Nat.{mul-zero}
+use Prim.Native.Nat.{ℕ, zero, suc, ◌+◌, ◌-◌, ◌*◌, ◌^◌, ◌<◌, ◌≤◌}
+use native.Mathlib.Nat.{mul-zero, one-le-pow}
 use native.Mathlib.Omega.{arith}
 use lib.ListN.{length, set}
-use lib.Seq.{sets, length-sets}
+use lib.Seq.{sets}
+use Rattle.std.specs.Prelude.{Option, Some, None}
 use Rattle.rule.specs.Func.{Fn, either, always}
 use Rattle.rule.specs.Cube.{Cube, covered, dashes}
 use Rattle.rule.specs.Nodes.{Tree, nodes, named, named3}
@@ -18,20 +19,25 @@ use Rattle.rule.proofs.Steps.{list_step1, list_step2, list_step3}
 use Rattle.rule.proofs.Cover.{no_step-left}
 use Rattle.rule.proofs.CoverSteps.{cover-none, cover_all, cover-step}
 use Rattle.rule.proofs.Named.{named_step1, named_step2, named_step3}
-use Rattle.graph.specs.Table.{table_of, fn_of}
-use Rattle.graph.specs.Built.{Built, Lacking, MadeOf}
-use Rattle.graph.specs.declared.build.Made.{Made}
-use Rattle.graph.specs.declared.build.Made.TheVariants as made
+use Rattle.graph.specs.Table.{fn_of}
+use Rattle.graph.specs.Lent.{table}
+use Rattle.graph.specs.Built.{MadeOf}
+use Rattle.graph.specs.Run.{Run, Short, Names}
 use Rattle.graph.proofs.Tests.{constant-refers}
 use Rattle.graph.proofs.Numbers.{fn_zero, fn_one, equal_numbers}
-use Rattle.graph.specs.Run.{Run, Short, Names}
-use Rattle.steps.specs.Step.{named_kept, ThreeRoots}
-use Rattle.listmemo.specs.Copy.{numbers_under}
-use Rattle.list.specs.Generating.{named_c, named_rest, named_b, named_a, Listable, Expandable, ListsDone, ListsFull, ListsOf, ListedDone, ListedFull, ListedOf}
-use Rattle.list.specs.declared.generator.Lists.{Lists}
-use Rattle.list.specs.declared.generator.Lists.TheVariants as lists
-use Rattle.list.specs.declared.generator.Listed.TheVariants as listed
 use Rattle.graph.proofs.Runs.{run_none, run_then, run_short, short-more, built-run, built-names, lacking_short}
+use Rattle.memo.specs.Memo.{HoldsAfter}
+use Rattle.memo.specs.declared.build.Operations.{Operations}
+use Rattle.steps.specs.Step.{named_kept, ThreeRoots, CoversIn, joined_covers}
+use Rattle.steps.specs.declared.step.Covers.{Covers}
+use Rattle.listmemo.specs.Copy.{numbers_under}
+use Rattle.listmemo.specs.Past.{Stands, Keeps}
+use Rattle.listmemo.specs.declared.past.Entry.{Entry}
+use Rattle.list.specs.Generating.{named_c, named_rest, named_b, named_a, ExpandableIn, ListsDone, ListsOf, ListedDone, ListedOf, Memos, MemosIn, MemosAfter, PutIn}
+use Rattle.list.specs.declared.generator.Generator.{Generator}
+use Rattle.list.specs.declared.generator.Path.{Path}
+use Rattle.list.proofs.Remembering.{memos_on, memos_put, place-on, memos_kept}
+use Rattle.list.proofs.Calls.{with_operations, columns_of, ListPromise, Asked, JoinGives, ListsGive, same_listed, same_memos}
 
 -- A list that is known, with what it names and covers: its promise over that list is one over the rule's.
 pub known_list : {n : ℕ} {c : ℕ} {v : List ℕ} {l : List ℕ} {h : List ℕ} {v' : List ℕ} {l' : List ℕ} {h' : List ℕ} (room : List ℕ) (room' : List ℕ) (at : ℕ) (chosen : ℕ) (w : ℕ) (k : ℕ) (m : ℕ) (L : Fn m) (U : Fn m) (cs : List Cube) (ts : List Tree) (g : ℕ) (c' : ℕ) (at' : ℕ) → list_of m L U ≡ cs → named m L U ≡ ts →
@@ -44,133 +50,191 @@ known_list {n} {c} {v} {l} {h} {v'} {l'} {h'} room room' at chosen w k m L U cs 
       place = y ∙ ap (λ ds. at + length ds) (sym el);
     }
 
-module _ (n : ℕ) (c : ℕ) (v : List ℕ) (l : List ℕ) (h : List ℕ) (room : List ℕ) (at : ℕ) (chosen : ℕ) (w : ℕ) (k : ℕ) (a : ℕ) (b : ℕ) (p : Listable n c v l h at chosen w k a b) where
-  -- L is 0.
-  lower_zero : a ≡ 0 → (m : ℕ) → always false m (fn_of (table_of v l h) k m a) ≡ true
-  lower_zero e m = ap (λ x. always false m (fn_of (table_of v l h) k m x)) e ∙ ap (always false m) (fn_zero (table_of v l h) k m) ∙ constant-always false m
+-- A generator that is asked for a list, at a path, with a lower and an upper root.
+module _ (g : Generator) (p : Path) {a : ℕ} {b : ℕ} (q : Asked g p a b) where
+  -- The functions of both roots.
+  abbrev lower : (m : ℕ) → Fn m
+  lower m = fn_of (table g.operations.now.table.now) p.k m a
 
-  pub none-listed : a ≡ 0 → (m : ℕ) → k + m ≡ n → ListedOf n c v l h v l h room room at chosen w k m (fn_of (table_of v l h) k m a) (fn_of (table_of v l h) k m b) (listed.Done 0 c at)
+  abbrev upper : (m : ℕ) → Fn m
+  upper m = fn_of (table g.operations.now.table.now) p.k m b
+
+  -- L is 0.
+  lower_zero : a ≡ 0 → (m : ℕ) → always false m (lower m) ≡ true
+  lower_zero e m = ap (λ x. always false m (fn_of (table g.operations.now.table.now) p.k m x)) e ∙ ap (always false m) (fn_zero (table g.operations.now.table.now) p.k m) ∙ constant-always false m
+
+  pub none-listed : a ≡ 0 → ListPromise g p a b g (Some 0)
   unfolding ListedOf numbers_under
   none-listed e m s =
-      known_list room room at chosen w k m _ _ [] [] 0 c at (list_step1 m _ _ (lower_zero e m)) (named_step1 m _ _ (lower_zero e m)) (run_none p.roots.sound)
-      (record { number = constant-refers (table_of v l h) c k 0 (omega arith); means = fn_zero (table_of v l h) k m ∙ sym (cover-none m) })
+      let t = g.operations.now.table.now in
+      known_list g.room.now g.room.now g.at p.chosen p.weight p.k m _ _ [] [] 0 t.count g.at (list_step1 m _ _ (lower_zero e m)) (named_step1 m _ _ (lower_zero e m)) (run_none q.roots.roots.sound)
+      (record { number = constant-refers (table t) t.count p.k 0 (omega arith); means = fn_zero (table t) p.k m ∙ sym (cover-none m) })
       refl
       (omega arith)
 
   -- L is not 0, U is 1.
-  lower_not_zero : (a ≡ 0 → ⊥) → (m : ℕ) → k + m ≡ n → always false m (fn_of (table_of v l h) k m a) ≡ false
+  lower_not_zero : (a ≡ 0 → ⊥) → (m : ℕ) → p.k + m ≡ columns_of g → always false m (lower m) ≡ false
   lower_not_zero d m s =
-      must_be_false (always false m (fn_of (table_of v l h) k m a))
+      let t = g.operations.now.table.now in
+      must_be_false (always false m (lower m))
       (λ e.
       d
-      (equal_numbers n (table_of v l h) c p.roots.sound.good m k a 0 s p.roots.first (constant-refers (table_of v l h) c k 0 (omega arith))
-      (always-constant false m (fn_of (table_of v l h) k m a) e ∙ sym (fn_zero (table_of v l h) k m))))
+      (equal_numbers t.columns (table t) t.count q.roots.roots.sound.good m p.k a 0 s q.roots.roots.first (constant-refers (table t) t.count p.k 0 (omega arith))
+      (always-constant false m (lower m) e ∙ sym (fn_zero (table t) p.k m))))
 
-  upper_one : b ≡ 1 → (m : ℕ) → always true m (fn_of (table_of v l h) k m b) ≡ true
-  upper_one e m = ap (λ x. always true m (fn_of (table_of v l h) k m x)) e ∙ ap (always true m) (fn_one (table_of v l h) k m) ∙ constant-always true m
+  upper_one : b ≡ 1 → (m : ℕ) → always true m (upper m) ≡ true
+  upper_one e m = ap (λ x. always true m (fn_of (table g.operations.now.table.now) p.k m x)) e ∙ ap (always true m) (fn_one (table g.operations.now.table.now) p.k m) ∙ constant-always true m
 
-  pub one_listed : (a ≡ 0 → ⊥) → b ≡ 1 → (room' : List ℕ) → room' ≡ set room at chosen → (m : ℕ) → k + m ≡ n → ListedOf n c v l h v l h room room' at chosen w k m (fn_of (table_of v l h) k m a) (fn_of (table_of v l h) k m b) (listed.Done 1 c (at + 1))
-  unfolding ListedOf numbers_under
-  one_listed d e room' x m s =
-      known_list room room' at chosen w k m _ _ (dashes m ∷ []) [] 1 c (at + 1) (list_step2 m _ _ (lower_not_zero d m s) (upper_one e m)) (named_step2 m _ _ (lower_not_zero d m s) (upper_one e m)) (run_none p.roots.sound)
-      (record { number = constant-refers (table_of v l h) c k 1 (omega arith); means = fn_one (table_of v l h) k m ∙ sym (cover_all m) })
-      (x ∙ ap (set room at) (omega (arith, ap (λ x. w * x) (number-dashes m), mul-zero w)))
-      refl
+  -- The place leaves room to count one cube.
+  pub put_asks : g.at < 2 ^ 32
+  put_asks = omega (arith, q.roots.place, one-le-pow (columns_of g - p.k) 3 (omega arith))
+
+  module _ {g' : Generator} (d : PutIn g p.chosen g') where
+    pub one_listed : (a ≡ 0 → ⊥) → b ≡ 1 → ListPromise g p a b g' (Some 1)
+    unfolding ListedOf numbers_under
+    one_listed z e =
+        let t = g.operations.now.table.now in
+        same_listed g g' d.operations p a b (Some 1) d.place
+        (λ m s.
+        known_list g.room.now g'.room.now g.at p.chosen p.weight p.k m _ _ (dashes m ∷ []) [] 1 t.count (g.at + 1) (list_step2 m _ _ (lower_not_zero z m s) (upper_one e m)) (named_step2 m _ _ (lower_not_zero z m s) (upper_one e m)) (run_none q.roots.roots.sound)
+        (record { number = constant-refers (table t) t.count p.k 1 (omega arith); means = fn_one (table t) p.k m ∙ sym (cover_all m) })
+        (d.room ∙ ap (set g.room.now g.at) (omega (arith, ap (λ x. p.weight * x) (number-dashes m), mul-zero p.weight)))
+        refl)
+
+    pub one_memos : MemosIn g'
+    one_memos = same_memos g g' d.operations d.past d.place (memos_put q.roots.roots.sound q.memos _ d.room)
 
   -- Otherwise a column is left.
-  upper_not_one : (b ≡ 1 → ⊥) → (m : ℕ) → k + m ≡ n → always true m (fn_of (table_of v l h) k m b) ≡ false
+  upper_not_one : (b ≡ 1 → ⊥) → (m : ℕ) → p.k + m ≡ columns_of g → always true m (upper m) ≡ false
   upper_not_one d m s =
-      must_be_false (always true m (fn_of (table_of v l h) k m b))
+      let t = g.operations.now.table.now in
+      must_be_false (always true m (upper m))
       (λ e.
       d
-      (equal_numbers n (table_of v l h) c p.roots.sound.good m k b 1 s p.roots.second (constant-refers (table_of v l h) c k 1 (omega arith))
-      (always-constant true m (fn_of (table_of v l h) k m b) e ∙ sym (fn_one (table_of v l h) k m))))
+      (equal_numbers t.columns (table t) t.count q.roots.roots.sound.good m p.k b 1 s q.roots.roots.second (constant-refers (table t) t.count p.k 1 (omega arith))
+      (always-constant true m (upper m) e ∙ sym (fn_one (table t) p.k m))))
 
-  pub expands : (a ≡ 0 → ⊥) → (b ≡ 1 → ⊥) → Expandable n c v l h at chosen w k a b
-  expands d e = record { listable = p; column = below p.roots.column (λ s. ends (omega arith)) }
+  pub expands : (a ≡ 0 → ⊥) → (b ≡ 1 → ⊥) → ExpandableIn g p a b
+  expands d e = record { listable = q.roots; column = below q.roots.roots.column (λ s. ends (omega arith)) }
     where
-      ends : k + 0 ≡ n → ⊥
-      ends s = clash (no_step-left (fn_of (table_of v l h) k 0 a) (fn_of (table_of v l h) k 0 b) (p.inside 0 s) (lower_not_zero d 0 s)) (upper_not_one e 0 s)
+      ends : p.k + 0 ≡ columns_of g → ⊥
+      ends s = clash (no_step-left (lower 0) (upper 0) (q.roots.inside 0 s) (lower_not_zero d 0 s)) (upper_not_one e 0 s)
 
-      below : k ≤ n → (k ≡ n → ⊥) → k < n
+      below : p.k ≤ columns_of g → (p.k ≡ columns_of g → ⊥) → p.k < columns_of g
       below u f = omega arith
 
   -- Step 3, where L is not 0 and U is not 1.
   module _ (dl : a ≡ 0 → ⊥) (du : b ≡ 1 → ⊥) where
     -- A promise for the columns of a step is one for all columns left.
-    for_step : (P : ℕ → Type 0) → ((m : ℕ) → k + suc m ≡ n → P (suc m)) → (m : ℕ) → k + m ≡ n → P m
-    for_step P f zero s = let u : k < n = (expands dl du).column in let z : ⊥ = omega arith in absurd z
+    for_step : (P : ℕ → Type 0) → ((m : ℕ) → p.k + suc m ≡ columns_of g → P (suc m)) → (m : ℕ) → p.k + m ≡ columns_of g → P m
+    for_step P f zero s = let u : p.k < columns_of g = (expands dl du).column in let z : ⊥ = omega arith in absurd z
     for_step P f (suc m) s = f m s
 
-    list-is : (m : ℕ) → k + suc m ≡ n → list_of (suc m) (fn_of (table_of v l h) k (suc m) a) (fn_of (table_of v l h) k (suc m) b) ≡ result m (list_of m) (fn_of (table_of v l h) k (suc m) a) (fn_of (table_of v l h) k (suc m) b)
+    list-is : (m : ℕ) → p.k + suc m ≡ columns_of g → list_of (suc m) (lower (suc m)) (upper (suc m)) ≡ result m (list_of m) (lower (suc m)) (upper (suc m))
     list-is m s = list_step3 m _ _ (lower_not_zero dl (suc m) s) (upper_not_one du (suc m) s)
 
-    named-is : (m : ℕ) → k + suc m ≡ n → named (suc m) (fn_of (table_of v l h) k (suc m) a) (fn_of (table_of v l h) k (suc m) b) ≡
-        named_c m (fn_of (table_of v l h) k (suc m) a) (fn_of (table_of v l h) k (suc m) b) ++ nodes (suc m) (g_of m (list_of m) (fn_of (table_of v l h) k (suc m) a) (fn_of (table_of v l h) k (suc m) b))
+    named-is : (m : ℕ) → p.k + suc m ≡ columns_of g → named (suc m) (lower (suc m)) (upper (suc m)) ≡ named_c m (lower (suc m)) (upper (suc m)) ++ nodes (suc m) (g_of m (list_of m) (lower (suc m)) (upper (suc m)))
     unfolding named3 named_c named_rest named_b named_a named_kept
     named-is m s = named_step3 m _ _ (lower_not_zero dl (suc m) s) (upper_not_one du (suc m) s)
 
-    short-listed : (m : ℕ) → k + suc m ≡ n → {v' : List ℕ} {l' : List ℕ} {h' : List ℕ} (room' : List ℕ) → length room' ≡ length room →
-        Short n c v l h v' l' h' (named_c m (fn_of (table_of v l h) k (suc m) a) (fn_of (table_of v l h) k (suc m) b) ++ nodes (suc m) (g_of m (list_of m) (fn_of (table_of v l h) k (suc m) a) (fn_of (table_of v l h) k (suc m) b))) →
-        ListedFull n c v l h v' l' h' room room' at chosen w k (suc m) (fn_of (table_of v l h) k (suc m) a) (fn_of (table_of v l h) k (suc m) b)
-    short-listed m s {v'} {l'} {h'} room' e t = record { short = subst⁻¹ (Short n c v l h v' l' h') (named-is m s) t; room-kept = e }
+    -- What does not fit in the step does not fit.
+    short-listed : (g' : Generator) {r : Option ℕ} → r ≡ None → length g'.room.now ≡ length g.room.now →
+        ((m : ℕ) → p.k + suc m ≡ columns_of g →
+        (let t = g.operations.now.table.now in
+        let t' = g'.operations.now.table.now in
+        Short t.columns t.count t.level.now t.low.now t.high.now t'.level.now t'.low.now t'.high.now (named_c m (lower (suc m)) (upper (suc m)) ++ nodes (suc m) (g_of m (list_of m) (lower (suc m)) (upper (suc m)))))) →
+        ListPromise g p a b g' r
+    unfolding ListedOf
+    short-listed g' e u h =
+        let t = g.operations.now.table.now in
+        let t' = g'.operations.now.table.now in
+        subst⁻¹ (ListPromise g p a b g') e
+        (for_step _
+        (λ m s. record { short = subst⁻¹ (Short t.columns t.count t.level.now t.low.now t.high.now t'.level.now t'.low.now t'.high.now) (named-is m s) (h m s); room-kept = u }))
 
-    pub three_full : (v₁ : List ℕ) (l₁ : List ℕ) (h₁ : List ℕ) (room₁ : List ℕ) (r : Lists) → r ≡ lists.Full →
-        ((m : ℕ) → k + suc m ≡ n → ListsOf n c v l h v₁ l₁ h₁ room room₁ at chosen w k m (fn_of (table_of v l h) k (suc m) a) (fn_of (table_of v l h) k (suc m) b) r) →
-        (m : ℕ) → k + m ≡ n → ListedOf n c v l h v₁ l₁ h₁ room room₁ at chosen w k m (fn_of (table_of v l h) k m a) (fn_of (table_of v l h) k m b) listed.Full
-    unfolding ListedOf ListsOf
-    three_full v₁ l₁ h₁ room₁ r e q =
-        for_step (λ m. ListedOf n c v l h v₁ l₁ h₁ room room₁ at chosen w k m (fn_of (table_of v l h) k m a) (fn_of (table_of v l h) k m b) listed.Full)
-        (λ m s.
-        let t : ListsFull n c v l h v₁ l₁ h₁ room room₁ at chosen w k m (fn_of (table_of v l h) k (suc m) a) (fn_of (table_of v l h) k (suc m) b) = subst (ListsOf n c v l h v₁ l₁ h₁ room room₁ at chosen w k m _ _) e (q m s) in
-        short-listed m s room₁ t.room-kept (short-more _ _ t.short))
+    pub three_full : {g₁ : Generator} {r : Option ℕ} → r ≡ None → ListsGive g p a b g₁ None → ListPromise g p a b g₁ r
+    unfolding ListsOf
+    three_full {g₁} e h = short-listed g₁ e h.same.long (λ m s. short-more _ _ (h.lists m s).short)
 
-    module _ (v₁ : List ℕ) (l₁ : List ℕ) (h₁ : List ℕ) (room₁ : List ℕ) (r : Lists) (g0 : ℕ) (g1 : ℕ) (gs : ℕ) (c₁ : ℕ) (at₁ : ℕ) (e : r ≡ lists.Done g0 g1 gs c₁ at₁)
-        (q : (m : ℕ) → k + suc m ≡ n → ListsOf n c v l h v₁ l₁ h₁ room room₁ at chosen w k m (fn_of (table_of v l h) k (suc m) a) (fn_of (table_of v l h) k (suc m) b) r) where
-      three : (m : ℕ) → k + suc m ≡ n → ListsDone n c v l h v₁ l₁ h₁ room room₁ at chosen w k m (fn_of (table_of v l h) k (suc m) a) (fn_of (table_of v l h) k (suc m) b) g0 g1 gs c₁ at₁
+    -- After the three lists.
+    module _ {g₁ : Generator} (s : Covers) (h : ListsGive g p a b g₁ (Some s)) where
+      three : (m : ℕ) → p.k + suc m ≡ columns_of g →
+          (let t = g.operations.now.table.now in
+          let t₁ = g₁.operations.now.table.now in
+          ListsDone t.columns t.count t.level.now t.low.now t.high.now t₁.level.now t₁.low.now t₁.high.now g.room.now g₁.room.now g.at p.chosen p.weight p.k m (lower (suc m)) (upper (suc m)) s.g0 s.g1 s.gs t₁.count g₁.at)
       unfolding ListsOf
-      three m s = subst (ListsOf n c v l h v₁ l₁ h₁ room room₁ at chosen w k m _ _) e (q m s)
+      three m i = h.lists m i
 
-      pub join_asks : ThreeRoots n c₁ v₁ l₁ h₁ k g0 g1 gs
+      columns : columns_of g₁ ≡ columns_of g
+      columns = h.same.table.slices.columns
+
+      pub join_asks : CoversIn g₁.operations.now p.k s
       join_asks =
+          let t₁ = g₁.operations.now.table.now in
           let u = (expands dl du).column in
-          let t = three (n - (k + 1)) (omega arith) in
-          record { sound = t.run.sound; column = u; cover0 = t.cover0.number; cover1 = t.cover1.number; cover_c = t.cover_c.number }
+          let d = three (columns_of g - (p.k + 1)) (omega (arith, u)) in
+          subst⁻¹ (λ n. ThreeRoots n t₁.count t₁.level.now t₁.low.now t₁.high.now p.k s.g0 s.g1 s.gs) columns
+          (record { sound = d.run.sound; column = u; cover0 = d.cover0.number; cover1 = d.cover1.number; cover_c = d.cover_c.number })
+
+      pub three_memos : MemosIn g₁
+      unfolding MemosAfter
+      three_memos = h.memos
 
       -- The cover that is made is that of the step's result.
-      Cover : (m : ℕ) → Fn (suc m)
-      Cover m = (
-        either m (fn_of (table_of v₁ l₁ h₁) (k + 1) m g0) (fn_of (table_of v₁ l₁ h₁) (k + 1) m gs),
-        either m (fn_of (table_of v₁ l₁ h₁) (k + 1) m g1) (fn_of (table_of v₁ l₁ h₁) (k + 1) m gs),
-      )
-
-      cover-is : (m : ℕ) → k + suc m ≡ n → Cover m ≡ covered (suc m) (result m (list_of m) (fn_of (table_of v l h) k (suc m) a) (fn_of (table_of v l h) k (suc m) b))
-      unfolding Cover
-      cover-is m s =
-          let t = three m s in
-          (λ i. (either m (t.cover0.means i) (t.cover_c.means i), either m (t.cover1.means i) (t.cover_c.means i))) ∙
+      cover-is : (m : ℕ) → p.k + suc m ≡ columns_of g → joined_covers g₁.operations.now p.k m s ≡ covered (suc m) (result m (list_of m) (lower (suc m)) (upper (suc m)))
+      cover-is m i =
+          let d = three m i in
+          (λ j. (either m (d.cover0.means j) (d.cover_c.means j), either m (d.cover1.means j) (d.cover_c.means j))) ∙
           sym (cover-step m (list_of m) _ _)
 
-      pub cover_full : (v₂ : List ℕ) (l₂ : List ℕ) (h₂ : List ℕ) (r' : Made) → r' ≡ made.Full →
-          ((m : ℕ) → k + suc m ≡ n → MadeOf n c₁ v₁ l₁ h₁ v₂ l₂ h₂ k (suc m) (either m (fn_of (table_of v₁ l₁ h₁) (k + 1) m g0) (fn_of (table_of v₁ l₁ h₁) (k + 1) m gs), either m (fn_of (table_of v₁ l₁ h₁) (k + 1) m g1) (fn_of (table_of v₁ l₁ h₁) (k + 1) m gs)) r') →
-          (m : ℕ) → k + m ≡ n → ListedOf n c v l h v₂ l₂ h₂ room room₁ at chosen w k m (fn_of (table_of v l h) k m a) (fn_of (table_of v l h) k m b) listed.Full
-      unfolding ListedOf MadeOf Cover g_of
-      cover_full v₂ l₂ h₂ r' e' q' =
-          for_step (λ m. ListedOf n c v l h v₂ l₂ h₂ room room₁ at chosen w k m (fn_of (table_of v l h) k m a) (fn_of (table_of v l h) k m b) listed.Full)
-          (λ m s.
-          let t = three m s in
-          let f : Lacking n c₁ v₁ l₁ h₁ v₂ l₂ h₂ k (suc m) (Cover m) = subst (MadeOf n c₁ v₁ l₁ h₁ v₂ l₂ h₂ k (suc m) (Cover m)) e' (q' m s) in
-          short-listed m s room₁ (ap length t.written ∙ length-sets room at (numbers_under chosen w _))
-          (run_short _ _ t.run (lacking_short (subst (Lacking n c₁ v₁ l₁ h₁ v₂ l₂ h₂ k (suc m)) (cover-is m s) f))))
+      -- What is made is the cover of the step, over the columns that the step counts.
+      made-is : {o : Operations} (r : Option ℕ) → JoinGives g₁.operations.now p s o r → (m : ℕ) → p.k + suc m ≡ columns_of g →
+          (let t = g.operations.now.table.now in
+          let t₁ = g₁.operations.now.table.now in
+          MadeOf t.columns t₁.count t₁.level.now t₁.low.now t₁.high.now o.table.now.level.now o.table.now.low.now o.table.now.high.now p.k (suc m) (g_of m (list_of m) (lower (suc m)) (upper (suc m))) o.table.now.count r)
+      unfolding g_of
+      made-is {o} r k m i =
+          let t₁ = g₁.operations.now.table.now in
+          transport (λ j. MadeOf (columns j) t₁.count t₁.level.now t₁.low.now t₁.high.now o.table.now.level.now o.table.now.low.now o.table.now.high.now p.k (suc m) (cover-is m i j) o.table.now.count r)
+          (k.made m (i ∙ sym columns))
 
-      pub list-listed : (v₂ : List ℕ) (l₂ : List ℕ) (h₂ : List ℕ) (r' : Made) (g : ℕ) (c₂ : ℕ) → r' ≡ made.Done g c₂ →
-          ((m : ℕ) → k + suc m ≡ n → MadeOf n c₁ v₁ l₁ h₁ v₂ l₂ h₂ k (suc m) (either m (fn_of (table_of v₁ l₁ h₁) (k + 1) m g0) (fn_of (table_of v₁ l₁ h₁) (k + 1) m gs), either m (fn_of (table_of v₁ l₁ h₁) (k + 1) m g1) (fn_of (table_of v₁ l₁ h₁) (k + 1) m gs)) r') →
-          (m : ℕ) → k + m ≡ n → ListedOf n c v l h v₂ l₂ h₂ room room₁ at chosen w k m (fn_of (table_of v l h) k m a) (fn_of (table_of v l h) k m b) (listed.Done g c₂ at₁)
-      unfolding ListedOf MadeOf Cover g_of
-      list-listed v₂ l₂ h₂ r' g c₂ e' q' =
-          for_step (λ m. ListedOf n c v l h v₂ l₂ h₂ room room₁ at chosen w k m (fn_of (table_of v l h) k m a) (fn_of (table_of v l h) k m b) (listed.Done g c₂ at₁))
-          (λ m s.
-          let t = three m s in
-          let f : Built n c₁ v₁ l₁ h₁ v₂ l₂ h₂ k (suc m) (Cover m) g c₂ = subst (MadeOf n c₁ v₁ l₁ h₁ v₂ l₂ h₂ k (suc m) (Cover m)) e' (q' m s) in
-          let b : Built n c₁ v₁ l₁ h₁ v₂ l₂ h₂ k (suc m) (covered (suc m) (result m (list_of m) _ _)) g c₂ = subst (λ F. Built n c₁ v₁ l₁ h₁ v₂ l₂ h₂ k (suc m) F g c₂) (cover-is m s) f in
-          known_list room room₁ at chosen w k (suc m) _ _ _ _ g c₂ at₁ (list-is m s) (named-is m s) (run_then _ _ t.run (built-run b)) (built-names b) t.written t.place)
+      pub cover_full : {o : Operations} {r : Option ℕ} → r ≡ None → JoinGives g₁.operations.now p s o None → ListPromise g p a b (with_operations g₁ o) r
+      unfolding MadeOf
+      cover_full {o} e k =
+          short-listed (with_operations g₁ o) e h.same.long (λ m i. run_short _ _ (three m i).run (lacking_short (made-is None k m i)))
+
+      -- After the cover.
+      module _ {o : Operations} (x : ℕ) (k : JoinGives g₁.operations.now p s o (Some x)) where
+        listed : (m : ℕ) → p.k + m ≡ columns_of g →
+            (let t = g.operations.now.table.now in
+            ListedDone t.columns t.count t.level.now t.low.now t.high.now o.table.now.level.now o.table.now.low.now o.table.now.high.now g.room.now g₁.room.now g.at p.chosen p.weight p.k m (lower m) (upper m) x o.table.now.count g₁.at)
+        unfolding MadeOf g_of
+        listed =
+            for_step _
+            (λ m i.
+            let d = three m i in
+            let f = made-is (Some x) k m i in
+            known_list g.room.now g₁.room.now g.at p.chosen p.weight p.k (suc m) _ _ _ _ x o.table.now.count g₁.at (list-is m i) (named-is m i) (run_then _ _ d.run (built-run f)) (built-names f) d.written d.place)
+
+        pub list-listed : ListPromise g p a b (with_operations g₁ o) (Some x)
+        unfolding ListedOf
+        list-listed = listed
+
+        -- The place moves on.
+        pub list_place : g.at ≤ g₁.at
+        list_place = place-on q.roots listed
+
+        cover_memos : MemosIn (with_operations g₁ o)
+        unfolding MadeOf HoldsAfter
+        cover_memos =
+            let u = (expands dl du).column in
+            let m : ℕ = columns_of g - (p.k + 1) in
+            let i : p.k + suc m ≡ columns_of g = omega (arith, u) in
+            memos_on join_asks.sound three_memos _ k.same.slices.columns (built-run (k.made m (i ∙ sym columns))) k.memo
+
+        -- The list may be kept.
+        pub list-memos : {past : List Entry} →
+            ((n : ℕ) (c : ℕ) (v : List ℕ) (l : List ℕ) (h : List ℕ) (room : List ℕ) (at : ℕ) → Keeps n c v l h room at g₁.past.entries → Stands n c v l h room at a b p.k x g.at (g₁.at - g.at) p.chosen → Keeps n c v l h room at past) →
+            (let t = o.table.now in
+            Memos t.columns t.count t.level.now t.low.now t.high.now g₁.room.now g₁.at o.memo.entries past)
+        list-memos f = memos_kept q.roots listed (k.same.slices.columns ∙ columns) cover_memos f

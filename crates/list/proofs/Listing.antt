@@ -1,6 +1,6 @@
 -- The three lists of a step, one law for each call: what it asks, what it leaves when it does not fit, and what stands
 -- after it.
-use mathlib.Core.Path.{◌≡◌, sym, ap, ◌∙◌, subst, subst⁻¹, transport}
+use mathlib.Core.Path.{◌≡◌, sym, ap, ◌∙◌, subst, subst⁻¹}
 use mathlib.Core.Bool.{true}
 use mathlib.Core.List.{List, ◌++◌, append_assoc}
 use Prim.Native.Nat.{ℕ, suc, ◌+◌, ◌*◌, ◌^◌, ◌≤◌}
@@ -15,19 +15,11 @@ use Rattle.rule.specs.Rule.{p0_of, p1_of, g0_of, g1_of, r0_of, r1_of, r0_or_r1, 
 use Rattle.graph.specs.Table.{table_of, fn_of}
 use Rattle.graph.specs.Sound.{Sound}
 use Rattle.graph.specs.Run.{Run, Short, Names}
-use Rattle.steps.specs.Step.{named_kept, KeptDone, named_left, RestDone, RestOf}
+use Rattle.steps.specs.Step.{named_kept, KeptDone, named_left, RestDone}
 use Rattle.listmemo.specs.Copy.{numbers_under}
-use Rattle.list.specs.Generating.{named_a, named_b, named_rest, named_c, Listable, ListsDone, ListedDone, ListedFull, ListedOf}
-use Rattle.steps.specs.declared.run.Both.{Both}
-use Rattle.list.specs.declared.generator.Listed.{Listed}
-use Rattle.list.specs.declared.generator.Listed.TheVariants as listed
+use Rattle.list.specs.Generating.{named_a, named_b, named_rest, named_c, Listable, ListsDone, ListedDone}
 use Rattle.graph.proofs.Runs.{run_then, run_present, names_stay, names-there, short-more}
 use Rattle.listmemo.proofs.Writing.{sign_number, under_sign, under_append, under-length, sets_append, put-length, result-length}
-
--- What a list promises of two numbers over the columns from column k on.
-unfoldable pub ListPromise : ℕ → ℕ → List ℕ → List ℕ → List ℕ → List ℕ → ℕ → ℕ → ℕ → ℕ → ℕ → ℕ → List ℕ → List ℕ → List ℕ → List ℕ → Listed → Type 0
-ListPromise n c v l h room at chosen w k a b v' l' h' room' r =
-    (m : ℕ) → k + m ≡ n → ListedOf n c v l h v' l' h' room room' at chosen w k m (fn_of (table_of v l h) k m a) (fn_of (table_of v l h) k m b) r
 
 -- What a list asks of two named numbers of the next column.
 pub next-listable : {n : ℕ} {c : ℕ} {v : List ℕ} {l : List ℕ} {h : List ℕ} (at : ℕ) (chosen : ℕ) (w : ℕ) (k : ℕ) (m : ℕ) (f : Fn m) (g : Fn m) {x : ℕ} {y : ℕ} → Sound n c v l h → k + suc m ≡ n → w ≡ 2 ^ k →
@@ -45,27 +37,6 @@ next-listable {n} {c} {v} {l} {h} at chosen w k m f g {x} {y} s e ew p q i u z =
     inside j t =
         subst⁻¹ (λ a. within a (fn_of (table_of v l h) (k + 1) a x) (fn_of (table_of v l h) (k + 1) a y) ≡ true) t
         (subst⁻¹ (λ F. within m F (fn_of (table_of v l h) (k + 1) m y) ≡ true) p.means (subst⁻¹ (λ F. within m f F ≡ true) q.means i))
-
--- A list of two named numbers is the list of what they name.
-pub listed_as : {n : ℕ} {c : ℕ} {v : List ℕ} {l : List ℕ} {h : List ℕ} (v' : List ℕ) (l' : List ℕ) (h' : List ℕ) (room : List ℕ) (room' : List ℕ) (at : ℕ) (chosen : ℕ) (w : ℕ) (k : ℕ) (m : ℕ) (f : Fn m) (g : Fn m) {x : ℕ} {y : ℕ} (r : Listed) → k + suc m ≡ n →
-    Names v l h c (k + 1) m f x → Names v l h c (k + 1) m g y → ListPromise n c v l h room at chosen w (k + 1) x y v' l' h' room' r → ListedOf n c v l h v' l' h' room room' at chosen w (k + 1) m f g r
-unfolding ListPromise
-listed_as {n} {c} {v} {l} {h} v' l' h' room room' at chosen w k m f g {x} {y} r e p q t =
-    subst (λ F. ListedOf n c v l h v' l' h' room room' at chosen w (k + 1) m F g r) p.means
-    (subst (λ g_of. ListedOf n c v l h v' l' h' room room' at chosen w (k + 1) m (fn_of (table_of v l h) (k + 1) m x) g_of r) q.means (t m (omega arith)))
-
--- The same where the answer is known.
-pub listed-done : {n : ℕ} {c : ℕ} {v : List ℕ} {l : List ℕ} {h : List ℕ} (v' : List ℕ) (l' : List ℕ) (h' : List ℕ) (room : List ℕ) (room' : List ℕ) (at : ℕ) (chosen : ℕ) (w : ℕ) (k : ℕ) (m : ℕ) (f : Fn m) (g : Fn m) {x : ℕ} {y : ℕ} (r : Listed) (z : ℕ) (c' : ℕ) (at' : ℕ) → r ≡ listed.Done z c' at' → k + suc m ≡ n →
-    Names v l h c (k + 1) m f x → Names v l h c (k + 1) m g y → ListPromise n c v l h room at chosen w (k + 1) x y v' l' h' room' r → ListedDone n c v l h v' l' h' room room' at chosen w (k + 1) m f g z c' at'
-unfolding ListedOf
-listed-done {n} {c} {v} {l} {h} v' l' h' room room' at chosen w k m f g r z c' at' e s p q t =
-    subst (ListedOf n c v l h v' l' h' room room' at chosen w (k + 1) m f g) e (listed_as v' l' h' room room' at chosen w k m f g r s p q t)
-
-pub listed_full : {n : ℕ} {c : ℕ} {v : List ℕ} {l : List ℕ} {h : List ℕ} (v' : List ℕ) (l' : List ℕ) (h' : List ℕ) (room : List ℕ) (room' : List ℕ) (at : ℕ) (chosen : ℕ) (w : ℕ) (k : ℕ) (m : ℕ) (f : Fn m) (g : Fn m) {x : ℕ} {y : ℕ} (r : Listed) → r ≡ listed.Full → k + suc m ≡ n →
-    Names v l h c (k + 1) m f x → Names v l h c (k + 1) m g y → ListPromise n c v l h room at chosen w (k + 1) x y v' l' h' room' r → ListedFull n c v l h v' l' h' room room' at chosen w (k + 1) m f g
-unfolding ListedOf
-listed_full {n} {c} {v} {l} {h} v' l' h' room room' at chosen w k m f g r e s p q t =
-    subst (ListedOf n c v l h v' l' h' room room' at chosen w (k + 1) m f g) e (listed_as v' l' h' room room' at chosen w k m f g r s p q t)
 
 -- What does not fit early does not fit in the whole step.
 module _ {n : ℕ} {c : ℕ} {v : List ℕ} {l : List ℕ} {h : List ℕ} {v' : List ℕ} {l' : List ℕ} {h' : List ℕ} (m : ℕ) (L : Fn (suc m)) (U : Fn (suc m)) where
@@ -183,13 +154,6 @@ pub record StateR (n : ℕ) (c : ℕ) (v : List ℕ) (l : List ℕ) (h : List �
   pub top : Names v' l' h' c' (k + 1) m (u0_and_u1 m (list_of m) L U) y
   pub written : room' ≡ sets room at (numbers_under chosen w (put sign0 (list_a m (list_of m) L U) ++ put sign1 (list_b m (list_of m) L U)))
   pub place : at' ≡ at + (length (list_a m (list_of m) L U) + length (list_b m (list_of m) L U))
-
--- What `rest` promises, of the functions that its numbers name.
-pub rest_as : (n : ℕ) {c : ℕ} {v : List ℕ} {l : List ℕ} {h : List ℕ} (v' : List ℕ) (l' : List ℕ) (h' : List ℕ) (k : ℕ) (m : ℕ) {f0 : Fn m} {e0 : Fn m} {f1 : Fn m} {e1 : Fn m} {w0 : Fn m} {w1 : Fn m} {l0 : ℕ} {g0 : ℕ} {l1 : ℕ} {g1 : ℕ} {u0 : ℕ} {u1 : ℕ} (r : Both) →
-    Names v l h c k m f0 l0 → Names v l h c k m e0 g0 → Names v l h c k m f1 l1 → Names v l h c k m e1 g1 → Names v l h c k m w0 u0 → Names v l h c k m w1 u1 →
-    RestOf n c v l h v' l' h' k m (fn_of (table_of v l h) k m l0) (fn_of (table_of v l h) k m g0) (fn_of (table_of v l h) k m l1) (fn_of (table_of v l h) k m g1) (fn_of (table_of v l h) k m u0) (fn_of (table_of v l h) k m u1) r →
-    RestOf n c v l h v' l' h' k m f0 e0 f1 e1 w0 w1 r
-rest_as n {c} {v} {l} {h} v' l' h' k m r a b d e f g t = transport (λ i. RestOf n c v l h v' l' h' k m (a.means i) (b.means i) (d.means i) (e.means i) (f.means i) (g.means i) r) t
 
 pub spread : (s : List Tree) (a : List Tree) (b : List Tree) (d : List Tree) (e : List Tree) → s ++ (a ++ b ++ d ++ e) ≡ s ++ a ++ b ++ d ++ e
 spread s a b d e = simp append_assoc

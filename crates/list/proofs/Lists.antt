@@ -1,113 +1,211 @@
--- The three lists of a step as the code calls for them: one law for what each call asks and one for each way out.
-use mathlib.Core.Path.{◌≡◌, refl, subst}
-use mathlib.Core.List.{List}
+-- The three lists of a step as the code calls for them: what stands after each call, and one law for what each call asks and
+-- one for each way out.
+use mathlib.Core.Path.{◌≡◌, refl, ◌∙◌, subst, subst⁻¹}
 use Prim.Native.Nat.{ℕ, suc, ◌+◌, ◌-◌, ◌*◌, ◌^◌, ◌≤◌}
 use native.Mathlib.Omega.{arith}
-use Rattle.rule.specs.Rule.{g0_of, g1_of, list_of}
-use Rattle.graph.specs.Table.{table_of, fn_of}
-use Rattle.steps.specs.Step.{Stepping, KeptDone, KeptOf, SixRoots, RestOf}
-use Rattle.list.specs.Generating.{Listable, Expandable, ListsOf}
-use Rattle.steps.specs.declared.run.Both.{Both}
-use Rattle.steps.specs.declared.run.Both.TheVariants as both
+use Rattle.std.specs.Prelude.{Option, Some, None}
+use Rattle.rule.specs.Func.{Fn}
+use Rattle.graph.specs.Table.{fn_of}
+use Rattle.graph.specs.Lent.{table}
+use Rattle.memo.specs.Memo.{HoldsAfter}
+use Rattle.memo.specs.declared.build.Operations.{Operations}
+use Rattle.steps.specs.Step.{KeptDone, KeptOf, LeftIn, RestOf, SixRoots}
 use Rattle.steps.specs.declared.step.Kept.{Kept}
-use Rattle.steps.specs.declared.step.Kept.TheVariants as kept
-use Rattle.list.specs.declared.generator.Lists.TheVariants as lists
-use Rattle.list.specs.declared.generator.Listed.{Listed}
-use Rattle.list.specs.declared.generator.Listed.TheVariants as listed
-use Rattle.list.proofs.Listing.{ListPromise, listed-done, listed_full, rest_as, short-kept, StateA, StateB, StateR, after_a, after_b, after-rest, after_c}
+use Rattle.steps.specs.declared.step.Covers.{Covers}
+use Rattle.list.specs.Generating.{ListableIn, ExpandableIn, MemosIn, MemosAfter, ListsOf, ListedOf, next_path}
+use Rattle.list.specs.declared.generator.Generator.{Generator}
+use Rattle.list.specs.declared.generator.Path.{Path}
+use Rattle.list.proofs.Listing.{short-kept, StateA, StateB, StateR, after_a, after_b, after-rest, after_c}
 use Rattle.list.proofs.Asking.{Step, ask_a, ask_b, ask_rest, ask_c, full_a, full_b, full_rest, full_c}
+use Rattle.list.proofs.Remembering.{kept_memos, rest_memos}
+use Rattle.list.proofs.Calls.{with_operations, columns_of, ListsPromise, StepAsked, KeepGives, RestGives, ListGives, asks_at, listed_as, rest_as}
 
-module _ (n : ℕ) (c : ℕ) (v : List ℕ) (l : List ℕ) (h : List ℕ) (room : List ℕ) (at : ℕ) (chosen : ℕ) (w : ℕ) (k : ℕ) (a : ℕ) (b : ℕ) (p : Expandable n c v l h at chosen w k a b) where
-  step : (m : ℕ) → k + suc m ≡ n → Step n at chosen w k m (fn_of (table_of v l h) k (suc m) a) (fn_of (table_of v l h) k (suc m) b)
-  step m s =
-      record {
-        columns = s;
-        inside = p.listable.inside (suc m) s;
-        weight = p.listable.weight;
-        literals = p.listable.literals;
-        place = subst (λ j. at + 3 ^ j ≤ 2 ^ 32) (omega arith) p.listable.place;
-      }
+-- A generator that is asked for the lists of a step, at a path, with a lower and an upper root.
+module _ (g : Generator) (p : Path) (a : ℕ) (b : ℕ) where
+  -- The functions of both roots.
+  abbrev lower : (m : ℕ) → Fn (suc m)
+  lower m = fn_of (table g.operations.now.table.now) p.k (suc m) a
 
-  -- What holds whatever the columns left are.
-  with-columns : {A : Type 0} → ((m : ℕ) → k + suc m ≡ n → A) → A
-  with-columns f = f (n - (k + 1)) (omega (arith, p.column))
+  abbrev upper : (m : ℕ) → Fn (suc m)
+  upper m = fn_of (table g.operations.now.table.now) p.k (suc m) b
 
-  pub keep_asks : Stepping n c v l h k a b
-  keep_asks = record { roots = p.listable.roots; column = p.column }
+  -- After the halves, P0 and P1.
+  pub record AfterKeep (o : Operations) (q : Kept) : Type 0 where
+    pub asked : ExpandableIn g p a b
+    pub columns : o.table.now.columns ≡ columns_of g
+    pub memos : MemosIn (with_operations g o)
+    pub state : (m : ℕ) → p.k + suc m ≡ columns_of g →
+        (let t = g.operations.now.table.now in
+        KeptDone t.columns t.count t.level.now t.low.now t.high.now o.table.now.level.now o.table.now.low.now o.table.now.high.now p.k m (lower m) (upper m) q.l0 q.l1 q.u0 q.u1 q.p0 q.p1 o.table.now.count)
+
+  -- After list A.
+  pub record AfterA (g₁ : Generator) (q : Kept) (g0 : ℕ) : Type 0 where
+    pub asked : ExpandableIn g p a b
+    pub columns : columns_of g₁ ≡ columns_of g
+    pub memos : MemosIn g₁
+    pub state : (m : ℕ) → p.k + suc m ≡ columns_of g →
+        (let t = g.operations.now.table.now in
+        let t₁ = g₁.operations.now.table.now in
+        StateA t.columns t.count t.level.now t.low.now t.high.now g.room.now g.at p.chosen p.weight p.k m (lower m) (upper m) t₁.level.now t₁.low.now t₁.high.now g₁.room.now q.l0 q.l1 q.u0 q.u1 q.p1 g0 t₁.count g₁.at)
+
+  -- After list B.
+  pub record AfterB (g₁ : Generator) (q : Kept) (g0 : ℕ) (g1 : ℕ) : Type 0 where
+    pub asked : ExpandableIn g p a b
+    pub columns : columns_of g₁ ≡ columns_of g
+    pub memos : MemosIn g₁
+    pub state : (m : ℕ) → p.k + suc m ≡ columns_of g →
+        (let t = g.operations.now.table.now in
+        let t₁ = g₁.operations.now.table.now in
+        StateB t.columns t.count t.level.now t.low.now t.high.now g.room.now g.at p.chosen p.weight p.k m (lower m) (upper m) t₁.level.now t₁.low.now t₁.high.now g₁.room.now q.l0 q.l1 q.u0 q.u1 g0 g1 t₁.count g₁.at)
+
+  -- After what A and B leave is joined.
+  pub record AfterRest (g₁ : Generator) (g0 : ℕ) (g1 : ℕ) (x : ℕ) (y : ℕ) : Type 0 where
+    pub asked : ExpandableIn g p a b
+    pub columns : columns_of g₁ ≡ columns_of g
+    pub memos : MemosIn g₁
+    pub state : (m : ℕ) → p.k + suc m ≡ columns_of g →
+        (let t = g.operations.now.table.now in
+        let t₁ = g₁.operations.now.table.now in
+        StateR t.columns t.count t.level.now t.low.now t.high.now g.room.now g.at p.chosen p.weight p.k m (lower m) (upper m) t₁.level.now t₁.low.now t₁.high.now g₁.room.now g0 g1 x y t₁.count g₁.at)
+
+  module _ (s : ExpandableIn g p a b) where
+    step : (m : ℕ) → p.k + suc m ≡ columns_of g → Step (columns_of g) g.at p.chosen p.weight p.k m (lower m) (upper m)
+    step m e =
+        record {
+          columns = e;
+          inside = s.listable.inside (suc m) e;
+          weight = s.listable.weight;
+          literals = s.listable.literals;
+          place = subst (λ j. g.at + 3 ^ j ≤ 2 ^ 32) (omega arith) s.listable.place;
+        }
+
+    -- What holds whatever the columns left are.
+    with-columns : {A : Type 0} → ((m : ℕ) → p.k + suc m ≡ columns_of g → A) → A
+    with-columns f = f (columns_of g - (p.k + 1)) (omega (arith, s.column))
 
   -- P0 and P1 do not fit.
-  pub kept_full : (v₁ : List ℕ) (l₁ : List ℕ) (h₁ : List ℕ) (r : Kept) → r ≡ kept.Full → ((m : ℕ) → k + suc m ≡ n → KeptOf n c v l h v₁ l₁ h₁ k m (fn_of (table_of v l h) k (suc m) a) (fn_of (table_of v l h) k (suc m) b) r) →
-      (m : ℕ) → k + suc m ≡ n → ListsOf n c v l h v₁ l₁ h₁ room room at chosen w k m (fn_of (table_of v l h) k (suc m) a) (fn_of (table_of v l h) k (suc m) b) lists.Full
+  pub kept_full : {o : Operations} {r : Option Covers} → r ≡ None → KeepGives g.operations.now p a b o None → ListsPromise g p a b (with_operations g o) r
   unfolding ListsOf KeptOf
-  kept_full v₁ l₁ h₁ r e q m s =
-      record { short = short-kept m _ _ (subst (KeptOf n c v l h v₁ l₁ h₁ k m (fn_of (table_of v l h) k (suc m) a) (fn_of (table_of v l h) k (suc m) b)) e (q m s)); room-kept = refl }
+  kept_full {o} e h =
+      subst⁻¹ (ListsPromise g p a b (with_operations g o)) e (λ m i. record { short = short-kept m _ _ (h.kept m i); room-kept = refl })
 
-  module _ (v₁ : List ℕ) (l₁ : List ℕ) (h₁ : List ℕ) (rk : Kept) (l0 : ℕ) (l1 : ℕ) (u0 : ℕ) (u1 : ℕ) (p0 : ℕ) (p1 : ℕ) (c₁ : ℕ) (ek : rk ≡ kept.Done l0 l1 u0 u1 p0 p1 c₁)
-      (qk : (m : ℕ) → k + suc m ≡ n → KeptOf n c v l h v₁ l₁ h₁ k m (fn_of (table_of v l h) k (suc m) a) (fn_of (table_of v l h) k (suc m) b) rk) where
-    kept_done : (m : ℕ) → k + suc m ≡ n → KeptDone n c v l h v₁ l₁ h₁ k m (fn_of (table_of v l h) k (suc m) a) (fn_of (table_of v l h) k (suc m) b) l0 l1 u0 u1 p0 p1 c₁
-    unfolding KeptOf
-    kept_done m s = subst (KeptOf n c v l h v₁ l₁ h₁ k m (fn_of (table_of v l h) k (suc m) a) (fn_of (table_of v l h) k (suc m) b)) ek (qk m s)
+  pub after_keep : {o : Operations} {q : Kept} → StepAsked g p a b → KeepGives g.operations.now p a b o (Some q) → AfterKeep o q
+  unfolding KeptOf HoldsAfter
+  after_keep {q = q} s h =
+      record {
+        asked = s.roots;
+        columns = h.same.slices.columns;
+        memos = kept_memos h.same.slices.columns (Some q) s.roots refl h.kept h.memo s.memos;
+        state = h.kept;
+      }
 
-    pub a_asks : Listable n c₁ v₁ l₁ h₁ at (chosen + 65536 * w) (2 * w) (k + 1) p0 u0
-    a_asks = with-columns (λ m s. ask_a (step m s) (kept_done m s))
+-- List A.
+module _ {g : Generator} {p : Path} {a : ℕ} {b : ℕ} {o : Operations} {q : Kept} (s : AfterKeep g p a b o q) {p₁ : Path} (e : p₁ ≡ next_path p (65536 * p.weight)) where
+  pub a_asks : ListableIn (with_operations g o) p₁ q.p0 q.u0
+  a_asks =
+      with-columns g p a b s.asked
+      (λ m i. asks_at (with_operations g o) s.columns e (ask_a (step g p a b s.asked m i) (s.state m i)))
 
-    pub a_full : (v₂ : List ℕ) (l₂ : List ℕ) (h₂ : List ℕ) (room₁ : List ℕ) (r : Listed) → r ≡ listed.Full → ListPromise n c₁ v₁ l₁ h₁ room at (chosen + 65536 * w) (2 * w) (k + 1) p0 u0 v₂ l₂ h₂ room₁ r →
-        (m : ℕ) → k + suc m ≡ n → ListsOf n c v l h v₂ l₂ h₂ room room₁ at chosen w k m (fn_of (table_of v l h) k (suc m) a) (fn_of (table_of v l h) k (suc m) b) lists.Full
-    unfolding ListsOf
-    a_full v₂ l₂ h₂ room₁ r e q m s =
-        full_a (step m s) (kept_done m s) (listed_full v₂ l₂ h₂ room room₁ at (chosen + 65536 * w) (2 * w) k m _ _ r e s (kept_done m s).kept0 (kept_done m s).upper0 q)
+  pub a_full : {g₁ : Generator} {r : Option Covers} → r ≡ None → ListGives (with_operations g o) p₁ q.p0 q.u0 g₁ None → ListsPromise g p a b g₁ r
+  unfolding ListsOf ListedOf
+  a_full {g₁} d h =
+      subst⁻¹ (ListsPromise g p a b g₁) d
+      (λ m i.
+      let k = s.state m i in
+      full_a (step g p a b s.asked m i) k (listed_as (with_operations g o) s.columns e g₁ m None (omega (arith, i)) k.kept0 k.upper0 h.list))
 
-    module _ (v₂ : List ℕ) (l₂ : List ℕ) (h₂ : List ℕ) (room₁ : List ℕ) (ra : Listed) (g0 : ℕ) (c₂ : ℕ) (at₁ : ℕ) (ea : ra ≡ listed.Done g0 c₂ at₁)
-        (qa : ListPromise n c₁ v₁ l₁ h₁ room at (chosen + 65536 * w) (2 * w) (k + 1) p0 u0 v₂ l₂ h₂ room₁ ra) where
-      state_a : (m : ℕ) → k + suc m ≡ n → StateA n c v l h room at chosen w k m (fn_of (table_of v l h) k (suc m) a) (fn_of (table_of v l h) k (suc m) b) v₂ l₂ h₂ room₁ l0 l1 u0 u1 p1 g0 c₂ at₁
-      state_a m s =
-          after_a s (kept_done m s) (listed-done v₂ l₂ h₂ room room₁ at (chosen + 65536 * w) (2 * w) k m _ _ ra g0 c₂ at₁ ea s (kept_done m s).kept0 (kept_done m s).upper0 qa)
+  pub after_list_a : {g₁ : Generator} {g0 : ℕ} → ListGives (with_operations g o) p₁ q.p0 q.u0 g₁ (Some g0) → AfterA g p a b g₁ q g0
+  unfolding ListedOf MemosAfter
+  after_list_a {g₁} {g0} h =
+      record {
+        asked = s.asked;
+        columns = h.same.table.slices.columns ∙ s.columns;
+        memos = h.memos;
+        state = λ m i.
+            let k = s.state m i in
+            after_a i k (listed_as (with_operations g o) s.columns e g₁ m (Some g0) (omega (arith, i)) k.kept0 k.upper0 h.list);
+      }
 
-      pub b_asks : Listable n c₂ v₂ l₂ h₂ at₁ (chosen + w) (2 * w) (k + 1) p1 u1
-      b_asks = with-columns (λ m s. ask_b (step m s) (state_a m s))
+-- List B.
+module _ {g : Generator} {p : Path} {a : ℕ} {b : ℕ} {g₁ : Generator} {q : Kept} {g0 : ℕ} (s : AfterA g p a b g₁ q g0) {p₁ : Path} (e : p₁ ≡ next_path p p.weight) where
+  pub b_asks : ListableIn g₁ p₁ q.p1 q.u1
+  b_asks =
+      with-columns g p a b s.asked
+      (λ m i. asks_at g₁ s.columns e (ask_b (step g p a b s.asked m i) (s.state m i)))
 
-      pub b_full : (v₃ : List ℕ) (l₃ : List ℕ) (h₃ : List ℕ) (room₂ : List ℕ) (r : Listed) → r ≡ listed.Full → ListPromise n c₂ v₂ l₂ h₂ room₁ at₁ (chosen + w) (2 * w) (k + 1) p1 u1 v₃ l₃ h₃ room₂ r →
-          (m : ℕ) → k + suc m ≡ n → ListsOf n c v l h v₃ l₃ h₃ room room₂ at chosen w k m (fn_of (table_of v l h) k (suc m) a) (fn_of (table_of v l h) k (suc m) b) lists.Full
-      unfolding ListsOf
-      b_full v₃ l₃ h₃ room₂ r e q m s =
-          full_b (step m s) (state_a m s) (listed_full v₃ l₃ h₃ room₁ room₂ at₁ (chosen + w) (2 * w) k m _ _ r e s (state_a m s).kept1 (state_a m s).upper1 q)
+  pub b_full : {g₂ : Generator} {r : Option Covers} → r ≡ None → ListGives g₁ p₁ q.p1 q.u1 g₂ None → ListsPromise g p a b g₂ r
+  unfolding ListsOf ListedOf
+  b_full {g₂} d h =
+      subst⁻¹ (ListsPromise g p a b g₂) d
+      (λ m i.
+      let k = s.state m i in
+      full_b (step g p a b s.asked m i) k (listed_as g₁ s.columns e g₂ m None (omega (arith, i)) k.kept1 k.upper1 h.list))
 
-      module _ (v₃ : List ℕ) (l₃ : List ℕ) (h₃ : List ℕ) (room₂ : List ℕ) (rb : Listed) (g1 : ℕ) (c₃ : ℕ) (at₂ : ℕ) (eb : rb ≡ listed.Done g1 c₃ at₂)
-          (qb : ListPromise n c₂ v₂ l₂ h₂ room₁ at₁ (chosen + w) (2 * w) (k + 1) p1 u1 v₃ l₃ h₃ room₂ rb) where
-        state_b : (m : ℕ) → k + suc m ≡ n → StateB n c v l h room at chosen w k m (fn_of (table_of v l h) k (suc m) a) (fn_of (table_of v l h) k (suc m) b) v₃ l₃ h₃ room₂ l0 l1 u0 u1 g0 g1 c₃ at₂
-        state_b m s =
-            after_b s (state_a m s) (listed-done v₃ l₃ h₃ room₁ room₂ at₁ (chosen + w) (2 * w) k m _ _ rb g1 c₃ at₂ eb s (state_a m s).kept1 (state_a m s).upper1 qb)
+  pub after_list_b : {g₂ : Generator} {g1 : ℕ} → ListGives g₁ p₁ q.p1 q.u1 g₂ (Some g1) → AfterB g p a b g₂ q g0 g1
+  unfolding ListedOf MemosAfter
+  after_list_b {g₂} {g1} h =
+      record {
+        asked = s.asked;
+        columns = h.same.table.slices.columns ∙ s.columns;
+        memos = h.memos;
+        state = λ m i.
+            let k = s.state m i in
+            after_b i k (listed_as g₁ s.columns e g₂ m (Some g1) (omega (arith, i)) k.kept1 k.upper1 h.list);
+      }
 
-        pub rest_asks : SixRoots n c₃ v₃ l₃ h₃ (k + 1) l0 g0 l1 g1 u0 u1
-        rest_asks = with-columns (λ m s. ask_rest (step m s) (state_b m s))
+-- What A and B leave.
+module _ {g : Generator} {p : Path} {a : ℕ} {b : ℕ} {g₁ : Generator} {q : Kept} {g0 : ℕ} {g1 : ℕ} (s : AfterB g p a b g₁ q g0 g1) where
+  pub rest_asks : LeftIn g₁.operations.now (p.k + 1) q g0 g1
+  rest_asks =
+      let t = g₁.operations.now.table.now in
+      with-columns g p a b s.asked
+      (λ m i.
+      subst⁻¹ (λ n. SixRoots n t.count t.level.now t.low.now t.high.now (p.k + 1) q.l0 g0 q.l1 g1 q.u0 q.u1) s.columns
+      (ask_rest (step g p a b s.asked m i) (s.state m i)))
 
-        module _ (v₄ : List ℕ) (l₄ : List ℕ) (h₄ : List ℕ) (rr : Both)
-            (qr : (m : ℕ) → (k + 1) + m ≡ n → RestOf n c₃ v₃ l₃ h₃ v₄ l₄ h₄ (k + 1) m (fn_of (table_of v₃ l₃ h₃) (k + 1) m l0) (fn_of (table_of v₃ l₃ h₃) (k + 1) m g0) (fn_of (table_of v₃ l₃ h₃) (k + 1) m l1) (fn_of (table_of v₃ l₃ h₃) (k + 1) m g1) (fn_of (table_of v₃ l₃ h₃) (k + 1) m u0) (fn_of (table_of v₃ l₃ h₃) (k + 1) m u1) rr) where
-          rest_of : (m : ℕ) (s : k + suc m ≡ n) → RestOf n c₃ v₃ l₃ h₃ v₄ l₄ h₄ (k + 1) m (fn_of (table_of v l h) k (suc m) a).0 (g0_of m (list_of m) (fn_of (table_of v l h) k (suc m) a) (fn_of (table_of v l h) k (suc m) b)) (fn_of (table_of v l h) k (suc m) a).1 (g1_of m (list_of m) (fn_of (table_of v l h) k (suc m) a) (fn_of (table_of v l h) k (suc m) b)) (fn_of (table_of v l h) k (suc m) b).0 (fn_of (table_of v l h) k (suc m) b).1 rr
-          rest_of m s =
-              let B = state_b m s in
-              rest_as n v₄ l₄ h₄ (k + 1) m rr B.lower0 B.cover0 B.lower1 B.cover1 B.upper0 B.upper1 (qr m (omega arith))
+  pub left_full : {o : Operations} {r : Option Covers} → r ≡ None → RestGives g₁.operations.now p q g0 g1 o None → ListsPromise g p a b (with_operations g₁ o) r
+  unfolding ListsOf
+  left_full {o} d h =
+      subst⁻¹ (ListsPromise g p a b (with_operations g₁ o)) d
+      (λ m i.
+      let k = s.state m i in
+      full_rest (step g p a b s.asked m i) o.table.now.count k
+      (rest_as g₁ o p q None m s.columns (omega (arith, i)) k.lower0 k.cover0 k.lower1 k.cover1 k.upper0 k.upper1 h.left))
 
-          pub left_full : rr ≡ both.Full → (m : ℕ) → k + suc m ≡ n → ListsOf n c v l h v₄ l₄ h₄ room room₂ at chosen w k m (fn_of (table_of v l h) k (suc m) a) (fn_of (table_of v l h) k (suc m) b) lists.Full
-          unfolding ListsOf
-          left_full e m s = full_rest (step m s) v₄ l₄ h₄ rr e (state_b m s) (rest_of m s)
+  pub after_left : {o : Operations} {x : ℕ} {y : ℕ} → RestGives g₁.operations.now p q g0 g1 o (Some (x, y)) → AfterRest g p a b (with_operations g₁ o) g0 g1 x y
+  unfolding RestOf HoldsAfter
+  after_left {o} {x} {y} h =
+      let columns = h.same.slices.columns ∙ s.columns in
+      record {
+        asked = s.asked;
+        columns = columns;
+        memos = rest_memos h.same.slices.columns (Some (x, y)) rest_asks refl h.left h.memo s.memos;
+        state = λ m i.
+            let k = s.state m i in
+            after-rest k (rest_as g₁ o p q (Some (x, y)) m s.columns (omega (arith, i)) k.lower0 k.cover0 k.lower1 k.cover1 k.upper0 k.upper1 h.left);
+      }
 
-          module _ (x : ℕ) (y : ℕ) (c₄ : ℕ) (er : rr ≡ both.Done x y c₄) where
-            state_r : (m : ℕ) → k + suc m ≡ n → StateR n c v l h room at chosen w k m (fn_of (table_of v l h) k (suc m) a) (fn_of (table_of v l h) k (suc m) b) v₄ l₄ h₄ room₂ g0 g1 x y c₄ at₂
-            unfolding RestOf
-            state_r m s = after-rest (state_b m s) (subst (RestOf n c₃ v₃ l₃ h₃ v₄ l₄ h₄ (k + 1) m _ _ _ _ _ _) er (rest_of m s))
+-- List C.
+module _ {g : Generator} {p : Path} {a : ℕ} {b : ℕ} {g₁ : Generator} {g0 : ℕ} {g1 : ℕ} {x : ℕ} {y : ℕ} (s : AfterRest g p a b g₁ g0 g1 x y) {p₁ : Path} (e : p₁ ≡ next_path p 0) where
+  -- A dash adds nothing to the literals.
+  under_dash : p₁ ≡ record { k = p.k + 1; weight = 2 * p.weight; chosen = p.chosen }
+  under_dash = let d : p.chosen + 0 ≡ p.chosen = omega arith in e ∙ (λ i. record { k = p.k + 1; weight = 2 * p.weight; chosen = d i })
 
-            pub c_asks : Listable n c₄ v₄ l₄ h₄ at₂ chosen (2 * w) (k + 1) x y
-            c_asks = with-columns (λ m s. ask_c (step m s) (state_r m s))
+  pub c_asks : ListableIn g₁ p₁ x y
+  c_asks =
+      with-columns g p a b s.asked
+      (λ m i. asks_at g₁ s.columns under_dash (ask_c (step g p a b s.asked m i) (s.state m i)))
 
-            pub c_full : (v₅ : List ℕ) (l₅ : List ℕ) (h₅ : List ℕ) (room₃ : List ℕ) (r : Listed) → r ≡ listed.Full → ListPromise n c₄ v₄ l₄ h₄ room₂ at₂ chosen (2 * w) (k + 1) x y v₅ l₅ h₅ room₃ r →
-                (m : ℕ) → k + suc m ≡ n → ListsOf n c v l h v₅ l₅ h₅ room room₃ at chosen w k m (fn_of (table_of v l h) k (suc m) a) (fn_of (table_of v l h) k (suc m) b) lists.Full
-            unfolding ListsOf
-            c_full v₅ l₅ h₅ room₃ r e q m s =
-                full_c (step m s) (state_r m s) (listed_full v₅ l₅ h₅ room₂ room₃ at₂ chosen (2 * w) k m _ _ r e s (state_r m s).left (state_r m s).top q)
+  pub c_full : {g₂ : Generator} {r : Option Covers} → r ≡ None → ListGives g₁ p₁ x y g₂ None → ListsPromise g p a b g₂ r
+  unfolding ListsOf ListedOf
+  c_full {g₂} d h =
+      subst⁻¹ (ListsPromise g p a b g₂) d
+      (λ m i.
+      let k = s.state m i in
+      full_c (step g p a b s.asked m i) k (listed_as g₁ s.columns under_dash g₂ m None (omega (arith, i)) k.left k.top h.list))
 
-            pub lists-done : (v₅ : List ℕ) (l₅ : List ℕ) (h₅ : List ℕ) (room₃ : List ℕ) (r : Listed) (gs : ℕ) (c₅ : ℕ) (at₃ : ℕ) → r ≡ listed.Done gs c₅ at₃ → ListPromise n c₄ v₄ l₄ h₄ room₂ at₂ chosen (2 * w) (k + 1) x y v₅ l₅ h₅ room₃ r →
-                (m : ℕ) → k + suc m ≡ n → ListsOf n c v l h v₅ l₅ h₅ room room₃ at chosen w k m (fn_of (table_of v l h) k (suc m) a) (fn_of (table_of v l h) k (suc m) b) (lists.Done g0 g1 gs c₅ at₃)
-            unfolding ListsOf
-            lists-done v₅ l₅ h₅ room₃ r gs c₅ at₃ e q m s =
-                after_c s (state_r m s) (listed-done v₅ l₅ h₅ room₂ room₃ at₂ chosen (2 * w) k m _ _ r gs c₅ at₃ e s (state_r m s).left (state_r m s).top q)
+  pub lists-done : {g₂ : Generator} (gs : ℕ) → ListGives g₁ p₁ x y g₂ (Some gs) → ListsPromise g p a b g₂ (Some (record { g0 = g0; g1 = g1; gs = gs }))
+  unfolding ListsOf ListedOf
+  lists-done {g₂} gs h m i =
+      let k = s.state m i in
+      after_c i k (listed_as g₁ s.columns under_dash g₂ m (Some gs) (omega (arith, i)) k.left k.top h.list)

@@ -1,14 +1,14 @@
 -- The entry of the generator: what it refuses, in which order, what it answers, and what it leaves behind.
-use Rattle.std.specs.Prelude.{◌≡◌, Bool, cond, not, ◌&&◌, List, [], ◌∷◌, ◌++◌, ℕ, zero, suc, ◌-◌, eqb, leb, ltb}
+use Rattle.std.specs.Prelude.{◌≡◌, Bool, cond, not, ◌&&◌, List, [], ◌∷◌, ◌++◌, ℕ, zero, suc, ◌-◌, eqb, leb, ltb, Result, Ok, Err}
 use lib.ListN.{length, replicate}
 use Rattle.rule.specs.Func.{Fn}
 use Rattle.rule.specs.Nodes.{need}
 use Rattle.rule.specs.Rule.{list_numbers}
-use Rattle.rule.specs.Refusal.{Condition, first_broken, nodes_lack, list_lacks}
+use Rattle.rule.specs.Refusal.{Condition, first_broken, nodes_lack, list_lacks, number_of, refusal_of}
+use Rattle.rule.specs.declared.refusal.Refused.{Refused}
 use Rattle.graph.specs.Table.{table_of, fn_of, functions}
 use Rattle.graph.specs.Entry.{input_conditions, cleared}
-use Rattle.list.specs.declared.entry.Generated.{Generated}
-use Rattle.list.specs.declared.entry.Generated.TheVariants.{Done, Refused}
+use Rattle.graph.specs.declared.build.TableMut.{TableMut}
 
 -- The numbers of an answer, as document 01 has them: the refusal or 0, what it returns, the length of the list.
 pub record Numbers : Type 0 where
@@ -16,9 +16,9 @@ pub record Numbers : Type 0 where
   pub returned : ℕ
   pub length : ℕ
 
-unfoldable pub numbers_of : Generated → Numbers
-numbers_of (Done n) = record { refusal = 0; returned = 0; length = n }
-numbers_of (Refused r x) = record { refusal = r; returned = x; length = 0 }
+unfoldable pub numbers_of : Result ℕ Refused → Numbers
+numbers_of (Ok n) = record { refusal = 0; returned = 0; length = n }
+numbers_of (Err r) = record { refusal = number_of r.refusal; returned = r.returned; length = 0 }
 
 module _ (n : ℕ) (c : ℕ) (v : List ℕ) (l : List ℕ) (h : List ℕ) (a : ℕ) (b : ℕ) (room : List ℕ) where
   -- L and U.
@@ -43,9 +43,9 @@ module _ (n : ℕ) (c : ℕ) (v : List ℕ) (l : List ℕ) (h : List ℕ) (a : �
   refusal = first_broken (input_conditions n c v l h a b (length room) ++ room_conditions)
 
   -- The answer: number 8 returns the length needed, any other 0; done gives the length of the list.
-  unfoldable pub answer_for : ℕ → Generated
-  answer_for zero = Done (length the_list)
-  answer_for (suc r) = Refused (suc r) (cond (eqb (suc r) list_lacks) (length the_list) 0)
+  unfoldable pub answer_for : ℕ → Result ℕ Refused
+  answer_for zero = Ok (length the_list)
+  answer_for (suc r) = Err (record { refusal = refusal_of (suc r); returned = cond (eqb (suc r) list_lacks) (length the_list) 0 })
 
   -- The numbers of that answer.
   unfoldable pub numbers_for : ℕ → Numbers
@@ -69,10 +69,16 @@ module _ (n : ℕ) (c : ℕ) (v : List ℕ) (l : List ℕ) (h : List ℕ) (a : �
   room_left r = cond (changes_nothing r) room (cond (eqb r 0) (the_list ++ replicate (length room - length the_list) 0) (replicate (length room) 0))
 
   -- What the generator promises.
-  pub record Generates (v' : List ℕ) (l' : List ℕ) (h' : List ℕ) (room' : List ℕ) (r : Generated) : Type 0 where
+  pub record Generates (c' : ℕ) (v' : List ℕ) (l' : List ℕ) (h' : List ℕ) (room' : List ℕ) (r : Result ℕ Refused) : Type 0 where
     pub answer : r ≡ answer_for refusal
     pub numbers : numbers_of r ≡ numbers_for refusal
+    pub count : c' ≡ c
     pub level : v' ≡ table_left refusal v
     pub low : l' ≡ table_left refusal l
     pub high : h' ≡ table_left refusal h
     pub list : room' ≡ room_left refusal
+
+-- The same of a lent table.
+abbrev pub GeneratesIn : TableMut → ℕ → ℕ → List ℕ → TableMut → List ℕ → Result ℕ Refused → Type 0
+GeneratesIn t a b room t' room' r =
+    Generates t.columns t.count t.level.now t.low.now t.high.now a b room t'.count t'.level.now t'.low.now t'.high.now room' r

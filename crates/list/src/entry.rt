@@ -1,62 +1,79 @@
-// The entry of the generator: every input is answered, bad ones by document 01's numbers.
-ghost use Rattle.std.specs.Prelude.{◌≡◌, ℕ, length, replicate};
-ghost use Rattle.list.specs.Entry.{Generates};
+// The entry of the generator: every input is answered, bad ones by document 01's refusals.
+ghost use Rattle.std.specs.Prelude.{◌≡◌};
+ghost use Rattle.graph.specs.Lent.{SameSlices};
+ghost use Rattle.memo.specs.Memo.{SameTable, HoldsIn};
+ghost use Rattle.list.specs.Entry.{GeneratesIn};
+ghost use Rattle.list.specs.Generating.{Nested, FilledIn};
 
-use crate::generator;
-use crate::generator::Listed;
-use graph::entry;
-use rule::refusal;
+use crate::generator::{Generator, Path};
+use graph::build::TableMut;
+use listmemo::past::Past;
+use memo::build::Operations;
+use memo::store::Memo;
+use rule::refusal::{Refusal, Refused};
 
-// The length of the list that stands in the room, or a refusal's number with what it returns.
-#[derive(Clone, Copy)]
-pub enum Generated {
-    Done(usize),
-    Refused(u16, usize),
-}
-
-// The whole list room becomes zero.
-fn clear_room(room: &mut [u32])
-    ensures { room.new ≡ replicate (length room.old) 0 }
-{
-    let mut i = 0;
-    while i < room.len() {
-        room[i] = 0;
-        i += 1;
-    }
-}
-
-// The list of the rule for a lower and an upper root.
-pub fn generate(
-    columns: u16,
-    level: &mut [u16],
-    low: &mut [u16],
-    high: &mut [u16],
-    count: usize,
+// The list of two good roots, as far as the room goes, and its length; none where there is no room for nodes.
+fn list_all(
+    operations: &mut Operations<'_, '_>,
     lower: u16,
     upper: u16,
     room: &mut [u32],
-) -> Generated
-    ensures { Generates columns count level.old low.old high.old lower upper room.old level.new low.new high.new room.new result }
+) -> Option<usize>
+    requires roots { Nested operations.old.table.now lower upper }
+    requires memo { HoldsIn operations.old }
+    ensures same { SameTable operations.old operations.new }
+    ensures filled { FilledIn operations.old.table.now lower upper room.old operations.new.table.now room.new result }
+{
+    let mut generator = Generator {
+        operations,
+        past: Past::new(),
+        room,
+        at: 0,
+    };
+    let path = Path {
+        k: 0,
+        weight: 1,
+        chosen: 0,
+    };
+    generator.generate_at(path, lower, upper)?;
+    Some(generator.at)
+}
+
+// The same on a table that no operation was made on yet. The generator borrows the operations, so that what it leaves of the
+// table is known here.
+fn fill(table: &mut TableMut<'_>, lower: u16, upper: u16, room: &mut [u32]) -> Option<usize>
+    requires { Nested table.old lower upper }
+    ensures same { SameSlices table.old table.new }
+    ensures filled { FilledIn table.old lower upper room.old table.new room.new result }
+{
+    let memo = Memo::new();
+    let mut operations = Operations { table, memo };
+    list_all(&mut operations, lower, upper, room)
+}
+
+// The list of the rule for a lower and an upper root, and its length.
+pub fn generate(
+    table: &mut TableMut<'_>,
+    lower: u16,
+    upper: u16,
+    room: &mut [u32],
+) -> Result<usize, Refused>
+    ensures same { SameSlices table.old table.new }
+    ensures generates { GeneratesIn table.old lower upper room.old table.new room.new result }
 {
     let size = room.len();
-    let broken = entry::input_refusal(columns, level, low, high, count, lower, upper, size);
-    if broken != 0 {
-        return Generated::Refused(broken, 0);
-    }
-    clear_room(room);
-    let mut memo = [0u64; 1024];
-    let mut past = [0u64; 1536];
-    let listed = generator::generate_at(
-        level, low, high, room, &mut memo, &mut past, columns, count, 0, 0, 1, 0, lower, upper,
-    );
-    entry::give_back(level, low, high, count);
-    let Listed::Done(_, _, length) = listed else {
-        clear_room(room);
-        return Generated::Refused(refusal::NODES_LACK, 0);
+    table.reading().input_refusal(lower, upper, size)?;
+    room.fill(0);
+    let kept = table.count;
+    let filled = fill(table, lower, upper, room);
+    table.give_back(kept);
+    let Some(length) = filled else {
+        room.fill(0);
+        return Err(Refusal::NodesLack.returning(0));
     };
-    if room.len() < length {
-        clear_room(room);
-        return Generated::Refused(refusal::LIST_LACKS, length);
+    if size < length {
+        room.fill(0);
+        return Err(Refusal::ListLacks.returning(length));
     }
-    Generated::Done(length)
+    Ok(length)
 }

@@ -1,179 +1,117 @@
 // The generator: recursive on the columns, left to right; the number of columns left falls at each of its three calls.
-ghost use Rattle.std.specs.Prelude.{◌≡◌, ℕ, suc, ◌+◌, ◌<◌, set};
-ghost use Rattle.graph.specs.Table.{table_of, fn_of};
-ghost use Rattle.list.specs.Generating.{Listable, Expandable, ListsOf, ListedOf, Memos, MemosAfterLists, MemosAfter};
+ghost use Rattle.std.specs.Prelude.{◌≡◌, ℕ, suc, ◌+◌, ◌^◌, ◌<◌};
+ghost use Rattle.list.specs.Generating.{SameRooms, ListableIn, ExpandableIn, MemosIn, ListsIn, ListedIn, MemosAfterIn, NextFits, next_path, PutIn, CopyableIn, CopiedIn};
 
-use graph::build::Made;
-use listmemo::past::Past;
-use listmemo::{copy, past};
-use steps::run::Both;
+use listmemo::copy;
+use listmemo::past::{Found, Past};
+use memo::build::Operations;
 use steps::step;
-use steps::step::Kept;
+use steps::step::Covers;
 
-// The covers of the three lists, the count of records in use and the place after the lists; or no room for nodes.
+// The node table with its memo, the memo of lists, and the list room with the place after the lists so far.
+#[derive(Drop)]
+pub struct Generator<'g, 'o, 't, 'r> {
+    pub operations: &'g mut Operations<'o, 't>,
+    pub past: Past,
+    pub room: &'r mut [u32],
+    pub at: usize,
+}
+
+// A column and what was chosen before it: `chosen` holds the literals of the columns before column k, `weight` is that of
+// column k: bit k for 1, bit 16 + k for 0.
 #[derive(Clone, Copy)]
-pub enum Lists {
-    Done(u16, u16, u16, usize, usize),
-    Full,
+pub struct Path {
+    pub k: u16,
+    pub weight: u32,
+    pub chosen: u32,
 }
 
-// The cover, the count of records in use and the place after the list; or no room for nodes.
-#[derive(Clone, Copy)]
-pub enum Listed {
-    Done(u16, usize, usize),
-    Full,
-}
-
-// A cube goes into the room where the room goes that far; past its end it is only counted.
-fn put(room: &mut [u32], at: usize, cube: u32)
-    ensures { room.new ≡ set room.old at cube }
-{
-    if at < room.len() {
-        room[at] = cube;
+impl Path {
+    // The path to the next column, with more literals.
+    fn next(self, literal: u32) -> Path
+        requires { NextFits self literal }
+        ensures { result ≡ next_path self literal }
+    {
+        Path {
+            k: self.k + 1,
+            weight: 2 * self.weight,
+            chosen: self.chosen + literal,
+        }
     }
 }
 
-// Lists A, B and C of a step at column k, one after the other from a place of the room on. `chosen` holds the literals of
-// the columns before, `weight` is that of column k: bit k for 1, bit 16 + k for 0.
-#[cycle(expand_generate_at)]
-fn expand(
-    level: &mut [u16],
-    low: &mut [u16],
-    high: &mut [u16],
-    room: &mut [u32],
-    memo: &mut [u64],
-    past: &mut [u64],
-    columns: u16,
-    count: usize,
-    at: usize,
-    chosen: u32,
-    weight: u32,
-    k: u16,
-    l: u16,
-    u: u16,
-) -> Lists
-    requires { Expandable columns count level.old low.old high.old at chosen weight k l u × Memos columns count level.old low.old high.old room.old at memo.old past.old }
-    ensures { ((m : ℕ) → k + suc m ≡ columns → ListsOf columns count level.old low.old high.old level.new low.new high.new room.old room.new at chosen weight k m (fn_of (table_of level.old low.old high.old) k (suc m) l) (fn_of (table_of level.old low.old high.old) k (suc m) u) result) × MemosAfterLists columns level.new low.new high.new room.new memo.new past.new result }
-{
-    let Kept::Done(l0, l1, u0, u1, p0, p1, c0) = step::keep(
-        level, low, high, memo, columns, count, k, l, u,
-    ) else {
-        return Lists::Full;
-    };
-    let Listed::Done(g0, ca, to_b) = generate_at(
-        level,
-        low,
-        high,
-        room,
-        memo,
-        past,
-        columns,
-        c0,
-        at,
-        chosen + 65536 * weight,
-        2 * weight,
-        k + 1,
-        p0,
-        u0,
-    ) else {
-        return Lists::Full;
-    };
-    let Listed::Done(g1, cb, to_c) = generate_at(
-        level,
-        low,
-        high,
-        room,
-        memo,
-        past,
-        columns,
-        ca,
-        to_b,
-        chosen + weight,
-        2 * weight,
-        k + 1,
-        p1,
-        u1,
-    ) else {
-        return Lists::Full;
-    };
-    let Both::Done(r, top, cr) = step::rest(
-        level,
-        low,
-        high,
-        memo,
-        columns,
-        cb,
-        k + 1,
-        l0,
-        g0,
-        l1,
-        g1,
-        u0,
-        u1,
-    ) else {
-        return Lists::Full;
-    };
-    let Listed::Done(gs, cc, end) = generate_at(
-        level,
-        low,
-        high,
-        room,
-        memo,
-        past,
-        columns,
-        cr,
-        to_c,
-        chosen,
-        2 * weight,
-        k + 1,
-        r,
-        top,
-    ) else {
-        return Lists::Full;
-    };
-    Lists::Done(g0, g1, gs, cc, end)
-}
+impl Generator<'_, '_, '_, '_> {
+    // A cube goes into the room where the room goes that far; past its end it is only counted.
+    fn put(&mut self, cube: u32)
+        requires { self.old.at < 2 ^ 32 }
+        ensures same { SameRooms self.old self.new }
+        ensures put { PutIn self.old cube self.new }
+    {
+        if self.at < self.room.len() {
+            self.room[self.at] = cube;
+        }
+        self.at += 1;
+    }
 
-// The list for the roots L and U over the columns from column k on, and its cover. A list found before is copied.
-#[cycle(expand_generate_at)]
-pub fn generate_at(
-    level: &mut [u16],
-    low: &mut [u16],
-    high: &mut [u16],
-    room: &mut [u32],
-    memo: &mut [u64],
-    past: &mut [u64],
-    columns: u16,
-    count: usize,
-    at: usize,
-    chosen: u32,
-    weight: u32,
-    k: u16,
-    l: u16,
-    u: u16,
-) -> Listed
-    requires { Listable columns count level.old low.old high.old at chosen weight k l u × Memos columns count level.old low.old high.old room.old at memo.old past.old }
-    ensures { ((m : ℕ) → k + m ≡ columns → ListedOf columns count level.old low.old high.old level.new low.new high.new room.old room.new at chosen weight k m (fn_of (table_of level.old low.old high.old) k m l) (fn_of (table_of level.old low.old high.old) k m u) result) × MemosAfter columns level.new low.new high.new room.new memo.new past.new result }
-{
-    if l == 0 {
-        return Listed::Done(0, count, at);
+    // A list found before is copied.
+    fn copy(&mut self, list: Found, chosen: u32)
+        requires { CopyableIn self.old list chosen }
+        ensures same { SameRooms self.old self.new }
+        ensures copied { CopiedIn self.old list chosen self.new }
+    {
+        copy::copy(self.room, self.at, list, chosen);
+        self.at += list.size;
     }
-    if u == 1 {
-        put(room, at, chosen);
-        return Listed::Done(1, count, at + 1);
+
+    // Lists A, B and C of a step, one after the other, and their covers; none where there is no room for nodes.
+    #[tactic(auto, unfolding(crate::specs::Generating::MemosAfter))]
+    #[cycle(expand_generate_at)]
+    fn expand(&mut self, path: Path, l: u16, u: u16) -> Option<Covers>
+        requires roots { ExpandableIn self.old path l u }
+        requires memos { MemosIn self.old }
+        ensures same { SameRooms self.old self.new }
+        ensures lists { (m : ℕ) → path.k + suc m ≡ self.old.operations.now.table.now.columns → ListsIn self.old self.new path m l u result }
+        ensures memos { MemosAfterIn self.new result }
+    {
+        let kept = step::keep(self.operations, path.k, l, u)?;
+        let g0 = self.generate_at(path.next(65536 * path.weight), kept.p0, kept.u0)?;
+        let g1 = self.generate_at(path.next(path.weight), kept.p1, kept.u1)?;
+        let (r, top) = step::rest(self.operations, path.k + 1, kept, g0, g1)?;
+        let gs = self.generate_at(path.next(0), r, top)?;
+        Some(Covers { g0, g1, gs })
     }
-    if let Past::Is(g, from, size, old) = past::find(past, l, u, k) {
-        copy::copy(room, from, at, size, old, chosen);
-        return Listed::Done(g, count, at + size);
+
+    // The list for the roots L and U over the columns from the path's on, and its cover. A list found before is copied.
+    #[tactic(auto, unfolding(crate::specs::Generating::MemosAfter))]
+    #[cycle(expand_generate_at)]
+    pub fn generate_at(&mut self, path: Path, l: u16, u: u16) -> Option<u16>
+        requires roots { ListableIn self.old path l u }
+        requires memos { MemosIn self.old }
+        ensures same { SameRooms self.old self.new }
+        ensures list { (m : ℕ) → path.k + m ≡ self.old.operations.now.table.now.columns → ListedIn self.old self.new path m l u result }
+        ensures memos { MemosAfterIn self.new result }
+    {
+        if l == 0 {
+            return Some(0);
+        }
+        if u == 1 {
+            self.put(path.chosen);
+            return Some(1);
+        }
+        if let Some(found) = self.past.find(l, u, path.k) {
+            self.copy(found, path.chosen);
+            return Some(found.cover);
+        }
+        let from = self.at;
+        let covers = self.expand(path, l, u)?;
+        let cover = step::join(self.operations, path.k, covers)?;
+        let found = Found {
+            cover,
+            from,
+            size: self.at - from,
+            literals: path.chosen,
+        };
+        self.past.keep(l, u, path.k, found);
+        Some(cover)
     }
-    let Lists::Done(g0, g1, gs, c, end) = expand(
-        level, low, high, room, memo, past, columns, count, at, chosen, weight, k, l, u,
-    ) else {
-        return Listed::Full;
-    };
-    let Made::Done(g, d) = step::join(level, low, high, memo, columns, c, k, g0, g1, gs) else {
-        return Listed::Full;
-    };
-    past::keep(past, l, u, k, g, at, end - at, chosen);
-    Listed::Done(g, d, end)
 }
