@@ -1,60 +1,63 @@
--- What follows the first `.e` line of what is left of a text, line by line.
+-- What follows the first `.e` line of a text, line by line.
 use mathlib.Core.Path.{◌≡◌, refl, sym, ap, ◌∙◌}
-use mathlib.Core.Bool.{Bool, true, false, cond}
-use mathlib.Core.List.{List, []}
-use Prim.Native.Nat.{ℕ, ◌+◌, ◌<◌, ◌≤◌}
+use mathlib.Core.Bool.{true, false, cond}
+use mathlib.Core.List.{List, [], ◌∷◌}
+use Prim.Native.Nat.{ℕ, ◌+◌}
+use native.Mathlib.Nat.{zero-add}
 use native.Mathlib.Omega.{arith}
-use lib.Dec.{ltb}
-use lib.ListN.{length, drop, drop_of_length-le}
+use lib.ListN.{length, drop}
 use lib.Seq.{drop-drop}
-use borrow.Author.Tests.{ltb-false}
-use Rattle.line.specs.Bytes.{split, lines}
-use Rattle.line.specs.Meaning.{is_end, bytes_to_end, after_end}
+use Rattle.std.specs.Prelude.{Option, Some, None}
+use Rattle.line.specs.Bytes.{is_newline, until, split, lines}
+use Rattle.line.specs.Meaning.{meaning, is_end, bytes_to_end, after_end}
+use Rattle.line.specs.declared.meaning.Line.{Line}
+use Rattle.line.specs.declared.meaning.Line.TheVariants.{Empty, Columns, Output, Typed, Count, Row, End, Bad}
 use Rattle.line.proofs.Fields.{lines_unroll}
-use Rattle.text.specs.Reader.{line_at, place_after, taken_at}
-use Rattle.text.specs.declared.reader.Taken.{Taken}
+use Rattle.text.specs.Reader.{next_line, rest_after}
 
-module _ (text : List ℕ) (at : ℕ) where
-  -- Past the end nothing is left.
-  pub nothing_left : length text ≤ at → after_end (drop at text) ≡ drop at text
-  unfolding after_end bytes_to_end lines split
-  nothing_left h = let e : drop at text ≡ [] = drop_of_length-le text h in ap after_end e ∙ sym e
+-- A line ends a text exactly if it is `.e`.
+pub is_end-End : (l : Line) → l ≡ End → is_end l ≡ true
+unfolding is_end
+is_end-End l e = ap is_end e
 
-  module _ (h : at < length text) (w : Taken) (t : w ≡ taken_at text at) where
-    abbrev line : List ℕ
-    line = line_at text at
+pub is_end-others : (l : Line) → (l ≡ End → ⊥) → is_end l ≡ false
+unfolding is_end
+is_end-others Empty h = refl
+is_end-others (Columns n) h = refl
+is_end-others Output h = refl
+is_end-others (Typed t) h = refl
+is_end-others (Count n) h = refl
+is_end-others (Row n x o) h = refl
+is_end-others End h = absurd (h refl)
+is_end-others Bad h = refl
 
-    -- The line is followed by what is left at the next place.
-    next-left : drop (at + length line + 1) text ≡ drop w.next text
-    unfolding taken_at place_after
-    next-left = go (ltb (at + length line) (length text)) refl ∙ ap (λ k. drop k text) (sym (ap (λ u. u.next) t))
-      where
-        go : (b : Bool) → ltb (at + length line) (length text) ≡ b
-            → drop (at + length line + 1) text ≡ drop (cond b (at + length line + 1) (length text)) text
-        go true e = refl
-        go false e =
-            let past : length text ≤ at + length line + 1 = omega (arith, ltb-false (at + length line) (length text) e) in
-            let end : length text ≤ length text = omega arith in
-            drop_of_length-le text past ∙ sym (drop_of_length-le text end)
+-- With no line left nothing is left.
+pub nothing_left : (text : List ℕ) {r : Option Line} → r ≡ None → r ≡ next_line text → rest_after text ≡ after_end text
+unfolding after_end bytes_to_end next_line rest_after lines split until
+nothing_left [] i e = refl
+nothing_left (b ∷ s) i e = absurd (cc)
 
-    from-here : after_end (drop at text)
-        ≡ drop (cond (is_end w.line) (length line + 1) (length line + 1 + bytes_to_end (lines (drop (at + length line + 1) text)))) (drop at text)
-    unfolding after_end bytes_to_end taken_at line_at
-    from-here =
-        ap (λ ls. drop (bytes_to_end ls) (drop at text)) (lines_unroll text at h) ∙
-        ap (λ u. drop (cond (is_end u.line) (length line + 1) (length line + 1 + bytes_to_end (lines (drop (at + length line + 1) text)))) (drop at text)) (sym t)
+module _ (text : List ℕ) (l : Line) (r : Option Line) (i : r ≡ Some l) (e : r ≡ next_line text) where
+  abbrev past : ℕ
+  past = length (until is_newline text) + 1
 
-    pub ends_here : is_end w.line ≡ true → after_end (drop at text) ≡ drop w.next text
-    ends_here e =
-        let k : at + (length line + 1) ≡ at + length line + 1 = omega arith in
-        from-here ∙ rw e (drop-drop (length line + 1) at text ∙ ap (λ j. drop j text) k ∙ next-left)
+  from-here : after_end text ≡ drop (cond (is_end l) past (past + bytes_to_end (lines (rest_after text)))) text
+  unfolding after_end bytes_to_end next_line rest_after
+  from-here = go text e
+    where
+      go : (s : List ℕ) → r ≡ next_line s
+          → drop (bytes_to_end (lines s)) s
+          ≡ drop (cond (is_end l) (length (until is_newline s) + 1) (length (until is_newline s) + 1 + bytes_to_end (lines (drop (length (until is_newline s) + 1) s)))) s
+      go [] e = absurd (cc)
+      go (b ∷ s) e =
+          let m : l ≡ meaning (until is_newline (b ∷ s)) = cc in
+          ap (λ ls. drop (bytes_to_end ls) (b ∷ s)) (rw zero-add at (lines_unroll (b ∷ s) 0 (omega arith))) ∙
+          ap (λ k. drop (cond (is_end k) (length (until is_newline (b ∷ s)) + 1) (length (until is_newline (b ∷ s)) + 1 + bytes_to_end (lines (drop (length (until is_newline (b ∷ s)) + 1) (b ∷ s))))) (b ∷ s)) (sym m)
 
-    pub ends_later : is_end w.line ≡ false → after_end (drop at text) ≡ after_end (drop w.next text)
-    unfolding after_end
-    ends_later e =
-        let more = bytes_to_end (lines (drop (at + length line + 1) text)) in
-        let k : at + (length line + 1 + more) ≡ at + length line + 1 + more = omega arith in
-        from-here ∙
-        rw e
-        (drop-drop (length line + 1 + more) at text ∙ ap (λ j. drop j text) k ∙ sym (drop-drop more (at + length line + 1) text) ∙
-        ap after_end next-left)
+  pub ends_here : is_end l ≡ true → rest_after text ≡ after_end text
+  unfolding rest_after
+  ends_here h = sym (from-here ∙ rw h)
+
+  pub ends_later : is_end l ≡ false → after_end (rest_after text) ≡ after_end text
+  unfolding rest_after after_end
+  ends_later h = drop-drop (bytes_to_end (lines (rest_after text))) past text ∙ sym (from-here ∙ rw h)

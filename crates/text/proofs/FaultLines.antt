@@ -5,12 +5,13 @@ use mathlib.Core.List.{List, [], ◌∷◌}
 use Prim.Native.Nat.{ℕ, suc, ◌+◌, ◌≤◌}
 use native.Mathlib.Omega.{arith}
 use lib.ListN.{length}
+use Rattle.std.specs.Prelude.{Some, None}
 use Rattle.rule.specs.Rows as Rows
 use Rattle.line.specs.Bytes.{lines}
 use Rattle.line.specs.Meaning.{meaning, kind_of, row_of}
 use Rattle.line.specs.declared.meaning.Line.{Line}
 use Rattle.line.specs.declared.meaning.Line.TheVariants.{Empty, Columns, Output, Typed, Count, Row, End, Bad}
-use Rattle.text.specs.Outcome.{Outcome, good, fault, start, step, complete, finish, put_row, add_row, follow, run, outcome}
+use Rattle.text.specs.Outcome.{Outcome, good, fault, start, step, complete, kind_or_fd, end_with, finish, put_row, add_row, follow, run, outcome}
 use Rattle.text.specs.declared.judge.State.{State}
 use Rattle.text.specs.declared.judge.Step.{Step}
 use Rattle.text.specs.declared.judge.Step.TheVariants.{On, Fault, Ended}
@@ -23,16 +24,19 @@ same_line : (i k : ℕ) → fault i ≡ fault k → i ≡ k
 same_line i k e = cc
 
 finish_between : (s : State) (i j : ℕ) → i ≤ j → Between i j (finish s i)
-unfolding finish
-finish_between s i j h = go (complete s)
+unfolding finish end_with
+finish_between s i j h = elim s.columns as (λ c. Between i j (end_with c s i)) [ Some n ↦ go n (complete s) | None ↦ here ]
   where
-    go : (q : Bool) → Between i j (cond q (good s.columns (kind_of s.kind) []) (fault i))
-    go true k e = let x : ◌≡◌ {A = ℕ} 0 1 = cc in let y : ⊥ = omega arith in absurd y
-    go false k e = let f = same_line i k e in (omega arith, omega arith)
+    here : Between i j (fault i)
+    here k e = let f = same_line i k e in (omega arith, omega arith)
+
+    go : (n : ℕ) (q : Bool) → Between i j (cond q (good n (kind_of (kind_or_fd s.kind)) []) (fault i))
+    go n true k e = absurd (cc)
+    go n false k e = here k e
 
 put_between : (i j : ℕ) (r : Rows.Row) (w : Outcome) → Between i j w → Between i j (put_row r w)
 unfolding put_row
-put_between i j r (good n t rs) h k e = let x : ◌≡◌ {A = ℕ} 0 1 = cc in let y : ⊥ = omega arith in absurd y
+put_between i j r (good n t rs) h k e = absurd (cc)
 put_between i j r (fault m) h k e = h k e
 
 add_between : (i j : ℕ) (l : Line) (w : Outcome) → Between i j w → Between i j (add_row l w)

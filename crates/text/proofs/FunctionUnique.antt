@@ -6,7 +6,9 @@ use mathlib.Core.List.{List, ◌∷◌}
 use Prim.Native.Nat.{ℕ, zero, suc}
 use native.Mathlib.Omega.{arith}
 use lib.ListN.{length}
+use Rattle.std.specs.Prelude.{Result, Ok}
 use Rattle.rule.specs.Func.{Fn}
+use Rattle.rule.specs.declared.refusal.Refused.{Refused}
 use Rattle.rule.specs.Rows.{Kind, Row}
 use Rattle.rule.proofs.Bools.{clash}
 use Rattle.graph.specs.Table.{table_of, refers, good_table, functions, Agree}
@@ -20,14 +22,13 @@ use Rattle.text.specs.Outcome.{Outcome, good, fault, outcome}
 use Rattle.text.specs.Candidate.{is_good}
 use Rattle.text.specs.Function.{function_refusal, NotRead, HasRead, ReadsFunction}
 use Rattle.text.specs.declared.function.Function.{Function}
-use Rattle.text.specs.declared.function.Function.TheVariants.{Done}
 use Rattle.text.proofs.FunctionEntry.{short_kept, sizes_kept, good_kept, rooms, first-broken}
 
 -- Two answers with what they leave in the slices are equal.
-abbrev Same : Function → List ℕ → List ℕ → List ℕ → Function → List ℕ → List ℕ → List ℕ → Type 0
+abbrev Same : Result Function Refused → List ℕ → List ℕ → List ℕ → Result Function Refused → List ℕ → List ℕ → List ℕ → Type 0
 Same a₁ v₁ l₁ h₁ a₂ v₂ l₂ h₂ = (a₁ ≡ a₂) × (v₁ ≡ v₂) × (l₁ ≡ l₂) × (h₁ ≡ h₂)
 
-module _ {text v l h v₁ l₁ h₁ v₂ l₂ h₂ : List ℕ} {n : ℕ} {t : Kind} {rows : List Row} {a₁ a₂ : Function}
+module _ {text v l h v₁ l₁ h₁ v₂ l₂ h₂ : List ℕ} {n : ℕ} {t : Kind} {rows : List Row} {a₁ a₂ : Result Function Refused}
     (p : HasRead text v l h v₁ l₁ h₁ n t rows a₁) (q : HasRead text v l h v₂ l₂ h₂ n t rows a₂) where
   same_count : p.count ≡ q.count
   same_count =
@@ -55,7 +56,7 @@ module _ {text v l h v₁ l₁ h₁ v₂ l₂ h₂ : List ℕ} {n : ℕ} {t : Ki
       let s₁ = p.sound.sized in
       let s₂ = q.sound.sized in
       let wide : length v₁ ≡ length v₂ = p.length-kept ∙ sym q.length-kept in (
-        p.answer ∙ (λ i. Done n (same_count i) (same_number p.on q.on i) (same_number p.on_or_dc q.on_or_dc i)) ∙ sym q.answer,
+        p.answer ∙ (λ i. Ok (record { columns = n; count = same_count i; lower = same_number p.on q.on i; upper = same_number p.on_or_dc q.on_or_dc i })) ∙ sym q.answer,
         one_slice p.count q.count v₁ v₂ same_count wide s₁.count same-table.level p.level q.level,
         one_slice p.count q.count l₁ l₂ same_count (s₁.low ∙ wide ∙ sym s₂.low) (omega (arith, s₁.count, s₁.low)) same-table.low p.low q.low,
         one_slice p.count q.count h₁ h₂ same_count (s₁.high ∙ wide ∙ sym s₂.high) (omega (arith, s₁.count, s₁.high)) same-table.high p.high q.high,
@@ -71,7 +72,7 @@ done-good text v l h e =
     first-kept g r (λ z. omega arith)
     (others_kept b (g ∷ r) (λ z. omega arith) (others_kept a (b ∷ g ∷ r) (λ z. omega arith) (sym (first-broken text v l h) ∙ e)))
 
-module _ {text v l h v₁ l₁ h₁ v₂ l₂ h₂ : List ℕ} {a₁ a₂ : Function} where
+module _ {text v l h v₁ l₁ h₁ v₂ l₂ h₂ : List ℕ} {a₁ a₂ : Result Function Refused} where
   refused_unique : {r : ℕ} → NotRead text v l h v₁ l₁ h₁ r a₁ → NotRead text v l h v₂ l₂ h₂ r a₂ → Same a₁ v₁ l₁ h₁ a₂ v₂ l₂ h₂
   refused_unique p q =
       (p.answer ∙ sym q.answer, p.level ∙ sym q.level, p.low ∙ sym q.low, p.high ∙ sym q.high)

@@ -2,21 +2,21 @@
 use mathlib.Core.Path.{◌≡◌, refl, sym, ap, ap₂, ◌∙◌}
 use mathlib.Core.Bool.{Bool, true, false, cond, not, ◌&&◌, ◌||◌, false≢true, true≢false}
 use mathlib.Core.List.{List, [], ◌∷◌, ◌++◌, map, append_assoc, append-nil}
-use Prim.Native.Nat.{ℕ, ◌+◌, ◌≤◌}
+use Prim.Native.Nat.{ℕ, ◌+◌}
 use native.Mathlib.Omega.{arith}
 use lib.Dec.{eqb}
 use lib.ListN.{length, length-append}
 use borrow.Author.Tests.{ne_eqb}
+use Rattle.std.specs.Prelude.{Option, Some, None}
 use Rattle.rule.specs.Rows as Rows
 use Rattle.line.specs.Bytes.{lines}
 use Rattle.line.specs.Meaning.{meaning, is_end, kind_of, row_of}
-use Rattle.line.proofs.Lines.{columns_fine}
 use Rattle.line.specs.declared.meaning.Kind.{Kind}
 use Rattle.line.specs.declared.meaning.Kind.TheVariants.{Fd}
 use Rattle.line.specs.declared.meaning.Out.{Out}
 use Rattle.line.specs.declared.meaning.Line.{Line}
 use Rattle.line.specs.declared.meaning.Line.TheVariants.{Empty, Columns, Output, Typed, Count, Row, End, Bad}
-use Rattle.text.specs.Outcome.{Outcome, good, fault, start, with_columns, with_output, with_kind, with_count, with_row, allows_columns, allows_kind, allows_out, first, legal, step, complete, finish, put_row, add_row, follow, run, outcome}
+use Rattle.text.specs.Outcome.{Outcome, good, fault, start, with_columns, with_output, with_kind, with_count, with_row, said as is_said, columns_are, allows_columns, allows_kind, allows_out, first, legal, step, count_right, complete, kind_or_fd, end_with, finish, put_row, add_row, follow, run, outcome}
 use Rattle.text.specs.Legal.{sort, given, said, columns_in, kind_in, count_in, columns_said, kind_said, count_said, row_said, rows_said, legal_after, whole, closed, closing, outcome_after, stateless_outcome}
 use Rattle.text.specs.declared.judge.State.{State}
 use Rattle.text.specs.declared.judge.Step.TheVariants.{Ended}
@@ -52,37 +52,37 @@ said-first k f d (m ∷ ls) l h e = go (eqb (sort m) k) h (λ g. said-first k f 
     go true g ih = absurd (true≢false g)
     go false g ih = ih g
 
+said_none : {A : Type 0} (k : ℕ) (f : Line → A) (d : A) (ls : List Line) → given k ls ≡ false → said k f d ls ≡ d
+unfolding given said
+said_none k f d [] h = refl
+said_none k f d (m ∷ ls) h = go (eqb (sort m) k) h (said_none k f d ls)
+  where
+    go : (q : Bool) → q || given k ls ≡ false → (given k ls ≡ false → said k f d ls ≡ d) → cond q (f m) (said k f d ls) ≡ d
+    go true g ih = absurd (true≢false g)
+    go false g ih = ih g
+
 rows_more : (ls : List Line) (l : Line) → rows_said (ls ++ (l ∷ [])) ≡ rows_said ls ++ row_said l
 unfolding rows_said
 rows_more [] l = append-nil (row_said l)
 rows_more (m ∷ ls) l = ap (λ r. row_said m ++ r) (rows_more ls l) ∙ sym (append_assoc (row_said m) (rows_said ls) (row_said l))
 
+-- What was said, if it was.
+abbrev given_value : {A : Type 0} → Bool → A → Option A
+given_value true x = Some x
+given_value false x = None
+
 -- A state tells what the lines before say.
 record Told (s : State) (ls : List Line) : Type 0 where
-  columns : s.columns ≡ columns_said ls
-  given-columns : given 1 ls ≡ not (eqb (columns_said ls) 0)
+  columns : s.columns ≡ given_value (given 1 ls) (columns_said ls)
   output : s.output ≡ given 2 ls
-  typed : s.typed ≡ given 3 ls
-  kind : s.kind ≡ kind_said ls
-  counted : s.counted ≡ given 4 ls
-  count : s.count ≡ count_said ls
+  kind : s.kind ≡ given_value (given 3 ls) (kind_said ls)
+  count : s.count ≡ given_value (given 4 ls) (count_said ls)
   rows : s.rows ≡ length (rows_said ls)
   given-rows : given 5 ls ≡ not (eqb (length (rows_said ls)) 0)
 
 told-start : Told start []
 unfolding start given columns_said kind_said count_said said rows_said
-told-start =
-    record {
-      columns = refl;
-      given-columns = refl;
-      output = refl;
-      typed = refl;
-      kind = refl;
-      counted = refl;
-      count = refl;
-      rows = refl;
-      given-rows = refl;
-    }
+told-start = record { columns = refl; output = refl; kind = refl; count = refl; rows = refl; given-rows = refl }
 
 -- The state after a line.
 unfoldable after : State → Line → State
@@ -99,25 +99,48 @@ not_not : (a : Bool) → not (not a) ≡ a
 not_not true = refl
 not_not false = refl
 
+-- What is asked of a value that was said, and of one that was not.
+is-given : {A : Type 0} (b : Bool) (x : A) → is_said (given_value b x) ≡ b
+unfolding is_said
+is-given true x = refl
+is-given false x = refl
+
+are-given : (b : Bool) (x n : ℕ) → columns_are (given_value b x) n ≡ b && eqb n x
+unfolding columns_are
+are-given true x n = refl
+are-given false x n = refl
+
+right-given : (b : Bool) (x r : ℕ) → count_right (given_value b x) r ≡ not b || eqb x r
+unfolding count_right
+right-given true x r = refl
+right-given false x r = refl
+
+swap_first : (a b c : Bool) → a && (b && c) ≡ b && a && c
+swap_first true true c = refl
+swap_first true false c = refl
+swap_first false true c = refl
+swap_first false false c = refl
+
 module _ (asked : ℕ) (s : State) (ls : List Line) (t : Told s ls) where
   no_rows : eqb s.rows 0 ≡ not (given 5 ls)
   no_rows = ap (λ r. eqb r 0) t.rows ∙ sym (not_not (eqb (length (rows_said ls)) 0)) ∙ ap not (sym t.given-rows)
-
-  has-columns : not (eqb s.columns 0) ≡ given 1 ls
-  has-columns = ap (λ n. not (eqb n 0)) t.columns ∙ sym t.given-columns
 
   -- A line's step is its legality after the lines before.
   legal-step : (l : Line) → is_end l ≡ false → step asked s l ≡ legal (legal_after asked ls l) (after s l)
   unfolding step legal legal_after after first is_end
   legal-step Empty e = refl
   legal-step (Columns n) e =
-      ap₂ (λ a b. legal (a && not b && allows_columns asked n) (with_columns s n)) no_rows has-columns
+      ap₂ (λ a b. legal (a && not b && allows_columns asked n) (with_columns s n)) no_rows (ap is_said t.columns ∙ is-given (given 1 ls) (columns_said ls))
   legal-step Output e = ap₂ (λ a b. legal (a && not b) (with_output s)) no_rows t.output
-  legal-step (Typed d) e = ap₂ (λ a b. legal (a && not b && allows_kind asked d) (with_kind s d)) no_rows t.typed
-  legal-step (Count n) e = ap₂ (λ a b. legal (a && not b) (with_count s n)) no_rows t.counted
+  legal-step (Typed d) e =
+      ap₂ (λ a b. legal (a && not b && allows_kind asked d) (with_kind s d)) no_rows (ap is_said t.kind ∙ is-given (given 3 ls) (kind_said ls))
+  legal-step (Count n) e =
+      ap₂ (λ a b. legal (a && not b) (with_count s n)) no_rows (ap is_said t.count ∙ is-given (given 4 ls) (count_said ls))
   legal-step (Row n x o) e =
-      ap₂ (λ a b. legal (a && b && eqb n s.columns && allows_out asked o) (with_row s)) has-columns t.output ∙
-      ap (λ c. legal (given 1 ls && given 2 ls && eqb n c && allows_out asked o) (with_row s)) t.columns
+      ap (λ q. legal (q && allows_out asked o) (with_row s))
+      (ap₂ (λ a c. a && columns_are c n) t.output t.columns ∙
+      ap (λ c. given 2 ls && c) (are-given (given 1 ls) (columns_said ls) n) ∙
+      swap_first (given 2 ls) (given 1 ls) (eqb n (columns_said ls)))
   legal-step End e = absurd (true≢false e)
   legal-step Bad e = refl
 
@@ -125,9 +148,18 @@ module _ (asked : ℕ) (s : State) (ls : List Line) (t : Told s ls) where
   complete-whole : complete s ≡ whole ls
   unfolding complete whole
   complete-whole =
-      ap₂ (λ a b. a && b && (not s.counted || eqb s.count s.rows)) has-columns t.output ∙
-      ap (λ a. given 1 ls && given 2 ls && (not a || eqb s.count s.rows)) t.counted ∙
-      ap₂ (λ a b. given 1 ls && given 2 ls && (not (given 4 ls) || eqb a b)) t.count t.rows
+      ap₂ (λ a b. a && b && count_right s.count s.rows) (ap is_said t.columns ∙ is-given (given 1 ls) (columns_said ls)) t.output ∙
+      ap (λ c. given 1 ls && given 2 ls && c)
+      (ap (λ c. count_right c s.rows) t.count ∙ right-given (given 4 ls) (count_said ls) s.rows ∙
+      ap (λ r. not (given 4 ls) || eqb (count_said ls) r) t.rows)
+
+  kind_told : kind_or_fd s.kind ≡ kind_said ls
+  unfolding kind_or_fd kind_said
+  kind_told = ap kind_or_fd t.kind ∙ go (given 3 ls) refl
+    where
+      go : (q : Bool) → given 3 ls ≡ q → kind_or_fd (given_value q (kind_said ls)) ≡ said 3 kind_in Fd ls
+      go true e = refl
+      go false e = sym (said_none 3 kind_in Fd ls e)
 
 -- One line more: what it leaves alone, and what it says.
 module _ (ls : List Line) (l : Line) where
@@ -148,30 +180,20 @@ module _ (ls : List Line) (l : Line) where
   rows_same e = rows_more ls l ∙ ap (λ r. rows_said ls ++ r) e ∙ append-nil (rows_said ls)
 
   module _ (s : State) (t : Told s ls) where
-    keep-columns : eqb (sort l) 1 ≡ false → s.columns ≡ columns_said more
+    keep-columns : eqb (sort l) 1 ≡ false → s.columns ≡ given_value (given 1 more) (columns_said more)
     unfolding columns_said
-    keep-columns e = t.columns ∙ sym (said_more 1 columns_in 0 ls l e)
-
-    keep-given : eqb (sort l) 1 ≡ false → given 1 more ≡ not (eqb (columns_said more) 0)
-    unfolding columns_said
-    keep-given e = given-same 1 e ∙ t.given-columns ∙ ap (λ n. not (eqb n 0)) (sym (said_more 1 columns_in 0 ls l e))
+    keep-columns e = t.columns ∙ ap₂ given_value (sym (given-same 1 e)) (sym (said_more 1 columns_in 0 ls l e))
 
     keep_output : eqb (sort l) 2 ≡ false → s.output ≡ given 2 more
     keep_output e = t.output ∙ sym (given-same 2 e)
 
-    keep_typed : eqb (sort l) 3 ≡ false → s.typed ≡ given 3 more
-    keep_typed e = t.typed ∙ sym (given-same 3 e)
-
-    keep-kind : eqb (sort l) 3 ≡ false → s.kind ≡ kind_said more
+    keep-kind : eqb (sort l) 3 ≡ false → s.kind ≡ given_value (given 3 more) (kind_said more)
     unfolding kind_said
-    keep-kind e = t.kind ∙ sym (said_more 3 kind_in Fd ls l e)
+    keep-kind e = t.kind ∙ ap₂ given_value (sym (given-same 3 e)) (sym (said_more 3 kind_in Fd ls l e))
 
-    keep_counted : eqb (sort l) 4 ≡ false → s.counted ≡ given 4 more
-    keep_counted e = t.counted ∙ sym (given-same 4 e)
-
-    keep-count : eqb (sort l) 4 ≡ false → s.count ≡ count_said more
+    keep-count : eqb (sort l) 4 ≡ false → s.count ≡ given_value (given 4 more) (count_said more)
     unfolding count_said
-    keep-count e = t.count ∙ sym (said_more 4 count_in 0 ls l e)
+    keep-count e = t.count ∙ ap₂ given_value (sym (given-same 4 e)) (sym (said_more 4 count_in 0 ls l e))
 
     keep-rows : row_said l ≡ [] → s.rows ≡ length (rows_said more)
     keep-rows r = t.rows ∙ ap length (sym (rows_same r))
@@ -193,24 +215,21 @@ no_other false true e = absurd (false≢true e)
 no_other false false e = refl
 
 -- What a directive or a row says after lines that did not.
-columns_now : (ls : List Line) (n : ℕ) → given 1 ls ≡ false → columns_said (ls ++ (Columns n ∷ [])) ≡ n
+columns_now : (ls : List Line) (n : ℕ) → given 1 ls ≡ false
+    → Some n ≡ given_value (given 1 (ls ++ (Columns n ∷ []))) (columns_said (ls ++ (Columns n ∷ [])))
 unfolding columns_said sort columns_in
-columns_now ls n e = said-first 1 columns_in 0 ls (Columns n) e refl
+columns_now ls n e =
+    sym (ap₂ given_value (given_now ls (Columns n) 1 refl) (said-first 1 columns_in 0 ls (Columns n) e refl))
 
-columns-given : (ls : List Line) (n : ℕ) → given 1 ls ≡ false → 1 ≤ n
-    → given 1 (ls ++ (Columns n ∷ [])) ≡ not (eqb (columns_said (ls ++ (Columns n ∷ []))) 0)
-unfolding sort
-columns-given ls n e h =
-    given_now ls (Columns n) 1 refl ∙
-    sym (ap (λ k. not (eqb k 0)) (columns_now ls n e) ∙ ap not (ne_eqb n 0 (λ z. let b : ⊥ = omega arith in b)))
-
-kind_now : (ls : List Line) (d : Kind) → given 3 ls ≡ false → kind_said (ls ++ (Typed d ∷ [])) ≡ d
+kind_now : (ls : List Line) (d : Kind) → given 3 ls ≡ false
+    → Some d ≡ given_value (given 3 (ls ++ (Typed d ∷ []))) (kind_said (ls ++ (Typed d ∷ [])))
 unfolding kind_said sort kind_in
-kind_now ls d e = said-first 3 kind_in Fd ls (Typed d) e refl
+kind_now ls d e = sym (ap₂ given_value (given_now ls (Typed d) 3 refl) (said-first 3 kind_in Fd ls (Typed d) e refl))
 
-count_now : (ls : List Line) (n : ℕ) → given 4 ls ≡ false → count_said (ls ++ (Count n ∷ [])) ≡ n
+count_now : (ls : List Line) (n : ℕ) → given 4 ls ≡ false
+    → Some n ≡ given_value (given 4 (ls ++ (Count n ∷ []))) (count_said (ls ++ (Count n ∷ [])))
 unfolding count_said sort count_in
-count_now ls n e = said-first 4 count_in 0 ls (Count n) e refl
+count_now ls n e = sym (ap₂ given_value (given_now ls (Count n) 4 refl) (said-first 4 count_in 0 ls (Count n) e refl))
 
 row-length : (ls : List Line) (n x : ℕ) (o : Out) → length (rows_said (ls ++ (Row n x o ∷ []))) ≡ length (rows_said ls) + 1
 unfolding row_said
@@ -224,82 +243,64 @@ row-given ls n x o = sym (ap not (ne_eqb (length (rows_said (ls ++ (Row n x o �
 
 -- The state after a legal line tells what the lines with it say.
 told-after : (asked : ℕ) (s : State) (ls : List Line) (l : Line) → Told s ls → is_end l ≡ false → legal_after asked ls l ≡ true
-    → ((n : ℕ) → l ≡ Columns n → 1 ≤ n) → Told (after s l) (ls ++ (l ∷ []))
+    → Told (after s l) (ls ++ (l ∷ []))
 unfolding after with_columns with_output with_kind with_count with_row sort row_said is_end legal_after
-told-after asked s ls Empty t e g f =
+told-after asked s ls Empty t e g =
     record {
       columns = keep-columns ls Empty s t refl;
-      given-columns = keep-given ls Empty s t refl;
       output = keep_output ls Empty s t refl;
-      typed = keep_typed ls Empty s t refl;
       kind = keep-kind ls Empty s t refl;
-      counted = keep_counted ls Empty s t refl;
       count = keep-count ls Empty s t refl;
       rows = keep-rows ls Empty s t refl;
       given-rows = keep-given-rows ls Empty s t refl refl;
     }
-told-after asked s ls (Columns n) t e g f =
+told-after asked s ls (Columns n) t e g =
     record {
-      columns = sym (columns_now ls n (none-given (not (given 5 ls)) (given 1 ls) (allows_columns asked n) g));
-      given-columns = columns-given ls n (none-given (not (given 5 ls)) (given 1 ls) (allows_columns asked n) g) (f n refl);
+      columns = columns_now ls n (none-given (not (given 5 ls)) (given 1 ls) (allows_columns asked n) g);
       output = keep_output ls (Columns n) s t refl;
-      typed = keep_typed ls (Columns n) s t refl;
       kind = keep-kind ls (Columns n) s t refl;
-      counted = keep_counted ls (Columns n) s t refl;
       count = keep-count ls (Columns n) s t refl;
       rows = keep-rows ls (Columns n) s t refl;
       given-rows = keep-given-rows ls (Columns n) s t refl refl;
     }
-told-after asked s ls Output t e g f =
+told-after asked s ls Output t e g =
     record {
       columns = keep-columns ls Output s t refl;
-      given-columns = keep-given ls Output s t refl;
       output = sym (given_now ls Output 2 refl);
-      typed = keep_typed ls Output s t refl;
       kind = keep-kind ls Output s t refl;
-      counted = keep_counted ls Output s t refl;
       count = keep-count ls Output s t refl;
       rows = keep-rows ls Output s t refl;
       given-rows = keep-given-rows ls Output s t refl refl;
     }
-told-after asked s ls (Typed d) t e g f =
+told-after asked s ls (Typed d) t e g =
     record {
       columns = keep-columns ls (Typed d) s t refl;
-      given-columns = keep-given ls (Typed d) s t refl;
       output = keep_output ls (Typed d) s t refl;
-      typed = sym (given_now ls (Typed d) 3 refl);
-      kind = sym (kind_now ls d (none-given (not (given 5 ls)) (given 3 ls) (allows_kind asked d) g));
-      counted = keep_counted ls (Typed d) s t refl;
+      kind = kind_now ls d (none-given (not (given 5 ls)) (given 3 ls) (allows_kind asked d) g);
       count = keep-count ls (Typed d) s t refl;
       rows = keep-rows ls (Typed d) s t refl;
       given-rows = keep-given-rows ls (Typed d) s t refl refl;
     }
-told-after asked s ls (Count n) t e g f =
+told-after asked s ls (Count n) t e g =
     record {
       columns = keep-columns ls (Count n) s t refl;
-      given-columns = keep-given ls (Count n) s t refl;
       output = keep_output ls (Count n) s t refl;
-      typed = keep_typed ls (Count n) s t refl;
       kind = keep-kind ls (Count n) s t refl;
-      counted = sym (given_now ls (Count n) 4 refl);
-      count = sym (count_now ls n (no_other (not (given 5 ls)) (given 4 ls) g));
+      count = count_now ls n (no_other (not (given 5 ls)) (given 4 ls) g);
       rows = keep-rows ls (Count n) s t refl;
       given-rows = keep-given-rows ls (Count n) s t refl refl;
     }
-told-after asked s ls (Row n x o) t e g f =
+told-after asked s ls (Row n x o) t e g =
     record {
       columns = keep-columns ls (Row n x o) s t refl;
-      given-columns = keep-given ls (Row n x o) s t refl;
       output = keep_output ls (Row n x o) s t refl;
-      typed = keep_typed ls (Row n x o) s t refl;
       kind = keep-kind ls (Row n x o) s t refl;
-      counted = keep_counted ls (Row n x o) s t refl;
       count = keep-count ls (Row n x o) s t refl;
       rows = row_now s ls n x o t;
       given-rows = given_now ls (Row n x o) 5 refl ∙ row-given ls n x o;
     }
-told-after asked s ls End t e g f = absurd (true≢false e)
-told-after asked s ls Bad t e g f = absurd (false≢true g)
+told-after asked s ls End t e g = absurd (true≢false e)
+told-after asked s ls Bad t e g = absurd (false≢true g)
 
 -- Rows put before those of an outcome.
 abbrev with_rows : List Rows.Row → Outcome → Outcome
@@ -331,15 +332,32 @@ add_with End w = sym (with_none w)
 add_with Bad w = sym (with_none w)
 
 -- The outcome after some lines, with a state and without.
+end-given : (b : Bool) (x : ℕ) (s : State) (k : ℕ)
+    → end_with (given_value b x) s k ≡ cond (b && complete s) (good x (kind_of (kind_or_fd s.kind)) []) (fault k)
+unfolding end_with
+end-given true x s k = refl
+end-given false x s k = refl
+
+whole-given : (ls : List Line) → given 1 ls && whole ls ≡ whole ls
+unfolding whole
+whole-given ls = go (given 1 ls) (given 2 ls) (not (given 4 ls) || eqb (count_said ls) (length (rows_said ls)))
+  where
+    go : (a b c : Bool) → a && (a && b && c) ≡ a && b && c
+    go true b c = refl
+    go false b c = refl
+
 finish-closed : (asked : ℕ) (s : State) (ls : List Line) → Told s ls → with_rows (rows_said ls) (finish s (length ls + 1)) ≡ closed ls
 unfolding finish closed
 finish-closed asked s ls t =
-    ap (λ q. with_rows (rows_said ls) (cond q (good s.columns (kind_of s.kind) []) (fault (length ls + 1)))) (complete-whole asked s ls t) ∙
+    ap (λ c. with_rows (rows_said ls) (end_with c s (length ls + 1))) t.columns ∙
+    ap (with_rows (rows_said ls)) (end-given (given 1 ls) (columns_said ls) s (length ls + 1)) ∙
+    ap₂ (λ q d. with_rows (rows_said ls) (cond q (good (columns_said ls) (kind_of d) []) (fault (length ls + 1))))
+    (ap (λ q. given 1 ls && q) (complete-whole asked s ls t) ∙ whole-given ls) (kind_told asked s ls t) ∙
     go (whole ls)
   where
-    go : (q : Bool) → with_rows (rows_said ls) (cond q (good s.columns (kind_of s.kind) []) (fault (length ls + 1)))
+    go : (q : Bool) → with_rows (rows_said ls) (cond q (good (columns_said ls) (kind_of (kind_said ls)) []) (fault (length ls + 1)))
         ≡ cond q (good (columns_said ls) (kind_of (kind_said ls)) (rows_said ls)) (fault (length ls + 1))
-    go true = λ i. good (t.columns i) (kind_of (t.kind i)) (append-nil (rows_said ls) i)
+    go true = ap (good (columns_said ls) (kind_of (kind_said ls))) (append-nil (rows_said ls))
     go false = refl
 
 ended : (asked : ℕ) (s : State) (l : Line) → is_end l ≡ true → step asked s l ≡ Ended
@@ -354,7 +372,7 @@ ended asked s End e = refl
 ended asked s Bad e = absurd (false≢true e)
 
 -- One line, given what follows it.
-module _ (asked : ℕ) (s : State) (before : List Line) (l : Line) (t : Told s before) (f : (n : ℕ) → l ≡ Columns n → 1 ≤ n)
+module _ (asked : ℕ) (s : State) (before : List Line) (l : Line) (t : Told s before)
     (rest : State → Outcome) (tail : Outcome)
     (ih : (s' : State) → Told s' (before ++ (l ∷ [])) → with_rows (rows_said (before ++ (l ∷ []))) (rest s') ≡ tail) where
   abbrev here : ℕ
@@ -367,7 +385,7 @@ module _ (asked : ℕ) (s : State) (before : List Line) (l : Line) (t : Told s b
       ap (with_rows (rows_said before)) (add_with l (rest (after s l))) ∙
       with_both (rows_said before) (row_said l) (rest (after s l)) ∙
       ap (λ r. with_rows r (rest (after s l))) (sym (rows_more before l)) ∙
-      ih (after s l) (told-after asked s before l t e g f)
+      ih (after s l) (told-after asked s before l t e g)
   legal_line e false g = refl
 
   one_line : (q : Bool) → is_end l ≡ q
@@ -386,7 +404,7 @@ run-after : (asked : ℕ) (s : State) (before : List Line) (ls : List (List ℕ)
 unfolding run outcome_after
 run-after asked s before [] t = finish-closed asked s before t
 run-after asked s before (b ∷ ls) t =
-    one_line asked s before (meaning b) t (λ n e. (columns_fine b n e).positive)
+    one_line asked s before (meaning b) t
     (λ s'. run asked s' (length before + 1 + 1) ls)
     (outcome_after asked (before ++ (meaning b ∷ [])) (map meaning ls))
     (λ s' t'.

@@ -1,12 +1,12 @@
 -- Naming the rows of a text through its lines: what one line names, what is left to name, and what does not fit.
 use mathlib.Core.Path.{◌≡◌, refl, sym, ap, ◌∙◌, subst, subst⁻¹}
-use mathlib.Core.Bool.{true, false}
 use mathlib.Core.List.{List, [], ◌∷◌, ◌++◌, append-nil, append_assoc}
-use Prim.Native.Nat.{ℕ, ◌<◌, ◌≤◌}
+use Prim.Native.Nat.{ℕ, ◌<◌}
 use native.Mathlib.Omega.{arith}
-use lib.ListN.{length, drop, drop_of_length-le}
+use lib.ListN.{length}
+use Rattle.std.specs.Prelude.{Option, Some, None}
 use Rattle.rule.specs.Nodes.{add_all}
-use Rattle.rule.specs.Rows.{Kind, Row, Part, on, part, set_of, named_by, named_after}
+use Rattle.rule.specs.Rows.{Kind, Row, Part, on, part, set_of, upper_of, named_by, named_after}
 use Rattle.rule.proofs.Growth.{more_no_shorter}
 use Rattle.rule.proofs.Rows.{set_begins}
 use Rattle.graph.specs.Table.{table_of, functions}
@@ -14,16 +14,22 @@ use Rattle.graph.specs.Sound.{Sound, RootedTwice}
 use Rattle.graph.specs.Run.{Names}
 use Rattle.graph.proofs.Tests.{constant-refers}
 use Rattle.graph.proofs.Numbers.{fn_zero}
-use Rattle.line.specs.Bytes.{split, lines}
-use Rattle.line.specs.Meaning.{is_end}
+use Rattle.line.specs.Bytes.{lines}
+use Rattle.line.specs.Meaning.{is_end, row_of}
+use Rattle.line.specs.declared.meaning.Out.{Out}
 use Rattle.line.specs.declared.meaning.Line.{Line}
-use Rattle.rows.specs.Naming.{other_part, Named, Unnamed, NamedOf}
+use Rattle.line.specs.declared.meaning.Line.TheVariants.{Empty, Columns, Output, Typed, Count, Row as a_row, End, Bad}
+use Rattle.graph.specs.Built.{MadeOf}
+use Rattle.graph.specs.Lent.{SameSlices, MadeIn}
+use Rattle.graph.specs.declared.build.TableMut.{TableMut}
+use Rattle.memo.specs.Memo.{SameTable}
+use Rattle.memo.specs.declared.build.Operations.{Operations}
+use Rattle.rows.specs.Naming.{other_part, Named, Unnamed, NamedOf, SetsIn, NamedIn, NamedAfterIn}
 use Rattle.rows.specs.declared.naming.Sets.{Sets}
-use Rattle.rows.specs.declared.naming.Sets.TheVariants.{Done, Full}
 use Rattle.text.specs.Function.{row_in, rows_in}
+use Rattle.text.proofs.NextLine.{Took}
+use Rattle.text.proofs.Ends.{is_end-End, is_end-others}
 use Rattle.text.proofs.Reading.{rows_to_end, rows_and_more}
-use Rattle.text.specs.declared.reader.Taken.{Taken}
-use Rattle.text.proofs.Places.{Took}
 
 -- What some rows name, and what those after them do; so what does not fit for the first does not fit for all.
 named_append : (n : ℕ) (t : Kind) (seen xs ys : List Row) → named_after n t seen (xs ++ ys) ≡ named_after n t seen xs ++ named_after n t (seen ++ xs) ys
@@ -61,85 +67,146 @@ none_named {n} {v} {l} {h} t s = record { sound = s; lower = zero_is on; second 
 pub sets_in_use : {n : ℕ} {t : Kind} {rows : List Row} {v l h : List ℕ} {a b c : ℕ} → Named n t rows v l h a b c → RootedTwice n c v l h 0 a b
 sets_in_use q = record { sound = q.sound; column = omega arith; first = q.lower.number; second = q.second.number }
 
--- A line's row is named after those before it; a line without one names nothing.
-module _ {n : ℕ} {t : Kind} {v l h : List ℕ} {a b c : ℕ} (line : Line) where
-  pub line_names : (v' l' h' : List ℕ) (r : Sets) (rs : List Row) → row_in n line ≡ rs →
-      ((seen : List Row) → Named n t seen v l h a b c → NamedOf n t (seen ++ rs) (length v) v' l' h' r) →
-      (seen : List Row) → Named n t seen v l h a b c → NamedOf n t (seen ++ row_in n line) (length v) v' l' h' r
-  line_names v' l' h' r rs e f seen q =
-      subst⁻¹ (λ u. NamedOf n t (seen ++ u) (length v) v' l' h' r) e (f seen q)
+-- The rows of a text, a line at a time.
+row_none : (n : ℕ) (l : Line) → (l ≡ End → ⊥) → ((m x : ℕ) (o : Out) → l ≡ a_row m x o → ⊥) → row_in n l ≡ []
+unfolding row_in
+row_none n Empty h g = refl
+row_none n (Columns k) h g = refl
+row_none n Output h g = refl
+row_none n (Typed t) h g = refl
+row_none n (Count k) h g = refl
+row_none n (a_row m x o) h g = absurd (g m x o refl)
+row_none n End h g = refl
+row_none n Bad h g = refl
 
-  pub line_names-none : row_in n line ≡ [] → (seen : List Row) → Named n t seen v l h a b c → NamedOf n t (seen ++ row_in n line) (length v) v l h (Done a b c)
-  unfolding NamedOf
-  line_names-none e seen q =
-      (refl, subst⁻¹ (λ u. Named n t u v l h a b c) (ap (λ u. seen ++ u) e ∙ append-nil seen) q)
+module _ (n : ℕ) {text : List ℕ} {l : Line} {rest : List ℕ} (k : Took text l rest) where
+  unrolled : rows_in n (lines text) ≡ rows_in n (k.here ∷ lines rest)
+  unrolled = ap (rows_in n) k.unrolls
 
--- The rows of what is left of a text.
-module _ (n : ℕ) (text : List ℕ) (at : ℕ) where
-  rows-over : length text ≤ at → rows_in n (lines (drop at text)) ≡ []
-  unfolding lines split rows_in
-  rows-over h = ap (λ t. rows_in n (lines t)) (drop_of_length-le text h)
+  rows_end : l ≡ End → rows_in n (lines text) ≡ []
+  rows_end e = unrolled ∙ rows_to_end n k.here (lines rest) (ap is_end (sym k.means) ∙ is_end-End l e)
 
-  module _ (w : Taken) (t : Took text at w) where
-    abbrev rest : List (List ℕ)
-    rest = lines (drop w.next text)
+  rows_on : (l ≡ End → ⊥) → rows_in n (lines text) ≡ row_in n l ++ rows_in n (lines rest)
+  rows_on e =
+      unrolled ∙ rows_and_more n k.here (lines rest) (ap is_end (sym k.means) ∙ is_end-others l e) ∙
+      ap (λ u. row_in n u ++ rows_in n (lines rest)) (sym k.means)
 
-    unrolled : rows_in n (lines (drop at text)) ≡ rows_in n (t.here ∷ rest)
-    unrolled = ap (rows_in n) t.unrolls
+  row_same : (l ≡ End → ⊥) → ((m x : ℕ) (o : Out) → l ≡ a_row m x o → ⊥) → rows_in n (lines text) ≡ rows_in n (lines rest)
+  row_same h g = rows_on h ∙ ap (λ r. r ++ rows_in n (lines rest)) (row_none n l h g)
 
-    rows_end : is_end w.line ≡ true → rows_in n (lines (drop at text)) ≡ []
-    rows_end e = unrolled ∙ rows_to_end n t.here rest (ap is_end (sym t.means) ∙ e)
+  row_more : (m x : ℕ) (o : Out) → l ≡ a_row m x o → rows_in n (lines text) ≡ row_of n x o ∷ rows_in n (lines rest)
+  unfolding row_in
+  row_more m x o e = rows_on (λ d. let z : a_row m x o ≡ End = sym e ∙ d in absurd (cc)) ∙ ap (λ u. row_in n u ++ rows_in n (lines rest)) e
 
-    rows_on : is_end w.line ≡ false → rows_in n (lines (drop at text)) ≡ row_in n w.line ++ rows_in n rest
-    rows_on e =
-        unrolled ∙ rows_and_more n t.here rest (ap is_end (sym t.means) ∙ e) ∙
-        ap (λ u. row_in n u ++ rows_in n rest) (sym t.means)
+-- The same table after one operation, and after the next.
+pub slices_then : {s s' s'' : TableMut} → SameSlices s s' → SameSlices s' s'' → SameSlices s s''
+slices_then a b =
+    record {
+      columns = b.columns ∙ a.columns;
+      level = b.level ∙ a.level;
+      low = b.low ∙ a.low;
+      high = b.high ∙ a.high;
+      level-long = b.level-long ∙ a.level-long;
+      low-long = b.low-long ∙ a.low-long;
+      high-long = b.high-long ∙ a.high-long;
+    }
 
--- What is known of a text between two lines: the rows before the place are named, and with those after it they are all.
-pub record SoFar (n : ℕ) (t : Kind) (text : List ℕ) (at : ℕ) (v l h : List ℕ) (a b c : ℕ) : Type 0 where
+pub table_then : {o o' o'' : Operations} → SameTable o o' → SameTable o' o'' → SameTable o o''
+table_then a b = record { name = b.name ∙ a.name; slices = slices_then a.slices b.slices }
+
+-- What a row's naming promises of the table's columns it promises of the text's, which are as many.
+pub row-named : (o o' : Operations) (k : Kind) (s : Sets) (x : ℕ) (out : Out) (r : Option Sets) {n : ℕ} → o.table.now.columns ≡ n
+    → ((seen : List Row) → NamedIn o k seen s → NamedAfterIn o o' k (seen ++ (row_of o.table.now.columns x out ∷ [])) r)
+    → (seen : List Row) → Named n k seen o.table.now.level.now o.table.now.low.now o.table.now.high.now s.on s.other o.table.now.count
+    → NamedOf n k (seen ++ (row_of n x out ∷ [])) (length o.table.now.level.now) o'.table.now.level.now o'.table.now.low.now o'.table.now.high.now o'.table.now.count r
+row-named o o' k s x out r e f =
+    subst
+    (λ (m : ℕ).
+    (seen : List Row) → Named m k seen o.table.now.level.now o.table.now.low.now o.table.now.high.now s.on s.other o.table.now.count
+    → NamedOf m k (seen ++ (row_of m x out ∷ [])) (length o.table.now.level.now) o'.table.now.level.now o'.table.now.low.now o'.table.now.high.now o'.table.now.count r)
+    e f
+
+-- So of the sets that U takes, and of U.
+pub sets-named : (o : Operations) (k : Kind) (s : Sets) (rows : List Row) {n : ℕ} → o.table.now.columns ≡ n
+    → Named n k rows o.table.now.level.now o.table.now.low.now o.table.now.high.now s.on s.other o.table.now.count → SetsIn o s
+sets-named o k s rows e q =
+    sets_in_use
+    (subst (λ (m : ℕ). Named m k rows o.table.now.level.now o.table.now.low.now o.table.now.high.now s.on s.other o.table.now.count) (sym e) q)
+
+pub upper-made : (o o' : Operations) (k : Kind) (s : Sets) (r : Option ℕ) {n : ℕ} → o.table.now.columns ≡ n
+    → ((rows : List Row) → NamedIn o k rows s → MadeIn o.table.now o'.table.now 0 o.table.now.columns (upper_of o.table.now.columns k rows) r)
+    → (rows : List Row) → Named n k rows o.table.now.level.now o.table.now.low.now o.table.now.high.now s.on s.other o.table.now.count
+    → MadeOf n o.table.now.count o.table.now.level.now o.table.now.low.now o.table.now.high.now o'.table.now.level.now o'.table.now.low.now o'.table.now.high.now 0 n (upper_of n k rows) o'.table.now.count r
+upper-made o o' k s r e f =
+    subst
+    (λ (m : ℕ).
+    (rows : List Row) → Named m k rows o.table.now.level.now o.table.now.low.now o.table.now.high.now s.on s.other o.table.now.count
+    → MadeOf m o.table.now.count o.table.now.level.now o.table.now.low.now o.table.now.high.now o'.table.now.level.now o'.table.now.low.now o'.table.now.high.now 0 m (upper_of m k rows) o'.table.now.count r)
+    e f
+
+-- What is known of a text between two lines: some rows are named, and with those of what is left they are all.
+pub record SoFar (n : ℕ) (t : Kind) (text : List ℕ) (rest : List ℕ) (v l h : List ℕ) (a b c : ℕ) : Type 0 where
   pub seen : List Row
   pub named : Named n t seen v l h a b c
-  pub whole : seen ++ rows_in n (lines (drop at text)) ≡ rows_in n (lines text)
+  pub whole : seen ++ rows_in n (lines rest) ≡ rows_in n (lines text)
 
-pub starts : {n : ℕ} {v l h : List ℕ} (t : Kind) (text : List ℕ) → Sound n 0 v l h → SoFar n t text 0 v l h 0 0 0
-starts t text s = record { seen = []; named = none_named t s; whole = refl }
+pub starts : {n c : ℕ} {v l h : List ℕ} (t : Kind) (text : List ℕ) → (c ≡ 0) × Sound n 0 v l h → SoFar n t text text v l h 0 0 c
+starts {n} {c} {v} {l} {h} t text s =
+    record { seen = []; named = subst (Named n t [] v l h 0 0) (sym s.0) (none_named t s.1); whole = refl }
 
-module _ {n : ℕ} {t : Kind} {text : List ℕ} {at : ℕ} {v l h : List ℕ} {a b c : ℕ} (q : SoFar n t text at v l h a b c) where
+module _ {n : ℕ} {t : Kind} {text rest : List ℕ} {v l h : List ℕ} {a b c : ℕ} (q : SoFar n t text rest v l h a b c) where
   -- Nothing is left: all rows are named.
-  all_named : rows_in n (lines (drop at text)) ≡ [] → Named n t (rows_in n (lines text)) v l h a b c
+  all_named : rows_in n (lines rest) ≡ [] → Named n t (rows_in n (lines text)) v l h a b c
   all_named e = subst (λ u. Named n t u v l h a b c) (sym (append-nil q.seen) ∙ ap (λ u. q.seen ++ u) (sym e) ∙ q.whole) q.named
 
-  pub named-over : (room : ℕ) → length v ≡ room → length text ≤ at → NamedOf n t (rows_in n (lines text)) room v l h (Done a b c)
-  unfolding NamedOf
-  named-over room w o = (w, all_named (rows-over n text at o))
+  pub named-over : (room : ℕ) → length v ≡ room → lines rest ≡ [] → NamedOf n t (rows_in n (lines text)) room v l h c (Some (record { on = a; other = b }))
+  unfolding NamedOf rows_in
+  named-over room w o = (w, all_named (ap (rows_in n) o))
 
-  module _ (w : Taken) (k : Took text at w) where
-    pub named_end : (room : ℕ) → length v ≡ room → is_end w.line ≡ true → NamedOf n t (rows_in n (lines text)) room v l h (Done a b c)
+  module _ {w : Line} {rest' : List ℕ} (k : Took rest w rest') where
+    pub named_end : (room : ℕ) → length v ≡ room → w ≡ End → NamedOf n t (rows_in n (lines text)) room v l h c (Some (record { on = a; other = b }))
     unfolding NamedOf
-    named_end room u e = (u, all_named (rows_end n text at w k e))
+    named_end room u e = (u, all_named (rows_end n k e))
 
-    -- A line more: its row is named, or it does not fit, and then the rows of the text do not.
-    module _ (e : is_end w.line ≡ false) (v' l' h' : List ℕ) (r : Sets)
-        (f : (seen : List Row) → Named n t seen v l h a b c → NamedOf n t (seen ++ row_in n w.line) (length v) v' l' h' r) where
-      next-whole : (q.seen ++ row_in n w.line) ++ rows_in n (lines (drop w.next text)) ≡ rows_in n (lines text)
-      next-whole =
-          append_assoc q.seen (row_in n w.line) (rows_in n (lines (drop w.next text))) ∙
-          ap (λ u. q.seen ++ u) (sym (rows_on n text at w k e)) ∙ q.whole
+    -- A line more without a row names nothing.
+    pub named_same : (w ≡ End → ⊥) → ((m x : ℕ) (o : Out) → w ≡ a_row m x o → ⊥) → SoFar n t text rest' v l h a b c
+    named_same d g = record { seen = q.seen; named = q.named; whole = ap (λ u. q.seen ++ u) (sym (row_same n k d g)) ∙ q.whole }
 
-      pub named-next : {a' b' c' : ℕ} → r ≡ Done a' b' c' → (length v' ≡ length v) × SoFar n t text w.next v' l' h' a' b' c'
+    -- A line more that is not the end: where its row does not fit, the rows of the text do not.
+    module _ (e : w ≡ End → ⊥) (v' l' h' : List ℕ) (c' : ℕ) (r : Option Sets)
+        (f : (seen : List Row) → Named n t seen v l h a b c → NamedOf n t (seen ++ row_in n w) (length v) v' l' h' c' r) where
+      line-whole : (q.seen ++ row_in n w) ++ rows_in n (lines rest') ≡ rows_in n (lines text)
+      line-whole =
+          append_assoc q.seen (row_in n w) (rows_in n (lines rest')) ∙
+          ap (λ u. q.seen ++ u) (sym (rows_on n k e)) ∙ q.whole
+
+      pub line_full : (room : ℕ) → length v ≡ room → r ≡ None → NamedOf n t (rows_in n (lines text)) room v' l' h' c' None
       unfolding NamedOf
-      named-next {a'} {b'} {c'} u =
-          let g : (length v' ≡ length v) × Named n t (q.seen ++ row_in n w.line) v' l' h' a' b' c' =
-          subst (NamedOf n t (q.seen ++ row_in n w.line) (length v) v' l' h') u (f q.seen q.named) in
-          (g.0, record { seen = q.seen ++ row_in n w.line; named = g.1; whole = next-whole })
-
-      pub named_full : (room : ℕ) → length v ≡ room → r ≡ Full → NamedOf n t (rows_in n (lines text)) room v' l' h' Full
-      unfolding NamedOf
-      named_full room p u =
-          let g : (length v' ≡ length v) × Unnamed n t (q.seen ++ row_in n w.line) (length v) v' l' h' =
-          subst (NamedOf n t (q.seen ++ row_in n w.line) (length v) v' l' h') u (f q.seen q.named) in
-          let rest = rows_in n (lines (drop w.next text)) in
+      line_full room p u =
+          let g : (length v' ≡ length v) × Unnamed n t (q.seen ++ row_in n w) (length v) v' l' h' =
+          subst (NamedOf n t (q.seen ++ row_in n w) (length v) v' l' h' c') u (f q.seen q.named) in
           let lacks : length v < length (add_all [] (named_after n t [] (rows_in n (lines text)))) =
-          subst (λ s. length v < length (add_all [] (named_after n t [] s))) next-whole
-          (first_lack n t (length v) (q.seen ++ row_in n w.line) rest g.1.lacks) in
+          subst (λ s. length v < length (add_all [] (named_after n t [] s))) line-whole
+          (first_lack n t (length v) (q.seen ++ row_in n w) (rows_in n (lines rest')) g.1.lacks) in
           (g.0 ∙ p, record { sized = g.1.sized; lacks = omega (arith, lacks, p) })
+
+    -- A row more: it is named, or it does not fit, and then the rows of the text do not.
+    module _ {m x : ℕ} {o : Out} (e : w ≡ a_row m x o) (v' l' h' : List ℕ) (c' : ℕ) (r : Option Sets)
+        (f : (seen : List Row) → Named n t seen v l h a b c → NamedOf n t (seen ++ (row_of n x o ∷ [])) (length v) v' l' h' c' r) where
+      next-whole : (q.seen ++ (row_of n x o ∷ [])) ++ rows_in n (lines rest') ≡ rows_in n (lines text)
+      next-whole =
+          append_assoc q.seen (row_of n x o ∷ []) (rows_in n (lines rest')) ∙
+          ap (λ u. q.seen ++ u) (sym (row_more n k m x o e)) ∙ q.whole
+
+      pub named-next : {s : Sets} → r ≡ Some s → SoFar n t text rest' v' l' h' s.on s.other c'
+      unfolding NamedOf
+      named-next {s} u =
+          let g : (length v' ≡ length v) × Named n t (q.seen ++ (row_of n x o ∷ [])) v' l' h' s.on s.other c' =
+          subst (NamedOf n t (q.seen ++ (row_of n x o ∷ [])) (length v) v' l' h' c') u (f q.seen q.named) in
+          record { seen = q.seen ++ (row_of n x o ∷ []); named = g.1; whole = next-whole }
+
+      pub named_full : (room : ℕ) → length v ≡ room → r ≡ None → NamedOf n t (rows_in n (lines text)) room v' l' h' c' None
+      unfolding row_in
+      named_full =
+          line_full (λ d. let z : a_row m x o ≡ End = sym e ∙ d in absurd (cc)) v' l' h' c' r
+          (λ seen p. subst⁻¹ (λ u. NamedOf n t (seen ++ row_in n u) (length v) v' l' h' c' r) e (f seen p))

@@ -1,13 +1,16 @@
--- Rooms: elements stored in two runs are stored in one, what is cleared grows by one, and stored elements with the rest cleared
--- are the elements and zeros.
+-- Rooms: elements stored in two runs are stored in one, what is left of a run is still to be put, and stored elements with the
+-- rest cleared are the elements and zeros.
 use mathlib.Core.Path.{◌≡◌, refl, sym, ap, ◌∙◌}
-use mathlib.Core.List.{List, [], ◌∷◌, ◌++◌, append-nil, append_assoc}
-use Prim.Native.Nat.{ℕ, suc, ◌+◌, ◌-◌, ◌<◌, ◌≤◌}
-use native.Mathlib.Nat.{add-zero}
+use mathlib.Core.List.{List, [], ◌∷◌, ◌++◌}
+use Prim.Native.Nat.{ℕ, suc, ◌+◌, ◌-◌, ◌≤◌}
+use native.Mathlib.Nat.{add-zero, sub-zero}
 use native.Mathlib.Numerals.{add-one}
 use native.Mathlib.Omega.{arith}
-use lib.ListN.{length, take, drop, set, replicate, length-append, length-set}
-use lib.Seq.{sets, sets-eq, length-sets, take_all, take_at, take-suc-set}
+use lib.ListN.{length, take, drop, set, replicate, length-append}
+use lib.Seq.{sets, sets-eq, length-sets, take_at}
+use borrow.Rule.Slice.PartMut.{put_mid}
+use Rattle.graph.specs.Entry as Entry
+use Rattle.graph.proofs.Clearing as Clearing
 use Rattle.text.specs.Room.{cleared, padded, Put}
 
 pub sets_append : (room : List ℕ) (i : ℕ) (a b : List ℕ) → sets room i (a ++ b) ≡ sets (sets room i a) (i + length a) b
@@ -29,29 +32,47 @@ module _ {room room' : List ℕ} {i r : ℕ} {a : List ℕ} (p : Put room i a ro
   put_then {b = b} q =
       record { stored = q.stored ∙ sym (put_front b); next = omega (arith, q.next, p.next, length-append a b) }
 
--- The last elements are stored, and what was to be stored is.
-pub put-done : {room room' : List ℕ} {i r : ℕ} {w : List ℕ} → sets room i w ≡ room' → r ≡ i + length w → Put room i w room' r
-put-done e f = record { stored = sym e; next = f }
+-- What is left of a run: stored from here on, it gives the room with the whole run, and there is room for it.
+pub record Left (room : List ℕ) (i : ℕ) (whole : List ℕ) (room' : List ℕ) (r : ℕ) (rest : List ℕ) : Type 0 where
+  pub stored : sets room' r rest ≡ sets room i whole
+  pub next : r + length rest ≡ i + length whole
+  pub fits : r + length rest ≤ length room'
+
+pub all_left : (room : List ℕ) (i : ℕ) (whole : List ℕ) → i + length whole ≤ length room → Left room i whole room i whole
+all_left room i whole h = record { stored = refl; next = refl; fits = h }
+
+module _ {room room' : List ℕ} {i r : ℕ} {whole : List ℕ} where
+  -- The first of what is left has room, and once it is put the others are left.
+  pub first_fits : (a b : List ℕ) → Left room i whole room' r (a ++ b) → r + length a ≤ length room'
+  first_fits a b l = omega (arith, l.fits, length-append a b)
+
+  pub left-put : {a room'' : List ℕ} {s : ℕ} → (b : List ℕ) → Left room i whole room' r (a ++ b) → Put room' r a room'' s
+      → Left room i whole room'' s b
+  left-put {a} b l p =
+      record {
+        stored = sym (put_front p b) ∙ l.stored;
+        next = omega (arith, l.next, p.next, length-append a b);
+        fits = omega (arith, l.fits, p.next, put-kept p, length-append a b);
+      }
+
+  -- Nothing is left: the whole run is put.
+  pub none_left : Left room i whole room' r [] → Put room i whole room' r
+  none_left l = record { stored = l.stored; next = omega (arith, l.next) }
 
 -- One element more of a run.
 pub sets_one : (room : List ℕ) (i x : ℕ) (w : List ℕ) → sets room i (x ∷ w) ≡ sets (set room i x) (i + 1) w
 sets_one room i x w = ap (λ k. sets (set room i x) k w) (sym (add-one i))
 
--- Nothing is left to clear, and one element more is cleared.
-pub cleared-all : (c : ℕ) (s : List ℕ) → length s ≤ c → cleared c s ≡ s
-unfolding cleared
-cleared-all c s h =
-    let none : length s - c ≡ 0 = omega arith in
-    ap (λ (k : ℕ). take c s ++ replicate k 0) none ∙ append-nil (take c s) ∙ take_all c s h
+-- A room whose elements from a place on are filled with zeros.
+pub filled-cleared : (c : ℕ) (s z : List ℕ) → z ≡ replicate (length (take (length s - c) (drop c s))) 0
+    → put_mid c (length s - c) s z ≡ cleared c s
+unfolding cleared Entry.cleared
+filled-cleared = Clearing.filled-cleared
 
-pub cleared_more : (s : List ℕ) (i : ℕ) → i < length s → cleared (i + 1) (set s i 0) ≡ cleared i s
+-- A room that is filled with zeros.
+pub all-cleared : (s z : List ℕ) → z ≡ replicate (length s) 0 → z ≡ cleared 0 s
 unfolding cleared
-cleared_more s i h =
-    let left : length s - i ≡ suc (length s - suc i) = omega arith in
-    ap (λ k. take k (set s i 0) ++ replicate (length (set s i 0) - k) 0) (add-one i) ∙
-    ap (λ k. take (suc i) (set s i 0) ++ replicate (k - suc i) 0) (length-set s i 0) ∙
-    ap (λ t. t ++ replicate (length s - suc i) 0) (take-suc-set s i 0 h) ∙
-    append_assoc (take i s) (0 ∷ []) (replicate (length s - suc i) 0) ∙ ap (λ k. take i s ++ replicate k 0) (sym left)
+all-cleared s z e = e ∙ ap (λ (k : ℕ). replicate k 0) (sym (sub-zero (length s)))
 
 -- Elements stored from the front, with the rest cleared.
 pub cleared-padded : (room w : List ℕ) → length w ≤ length room → cleared (length w) (sets room 0 w) ≡ padded w room

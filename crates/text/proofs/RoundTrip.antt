@@ -1,13 +1,14 @@
 -- What is written reads back as the same rows in the same order. The text's lines are those that were put; each means what it was put
 -- for; so the reader goes on to the end, row by row.
-use mathlib.Core.Path.{◌≡◌, refl, sym, ap, ap₂, ◌∙◌}
-use mathlib.Core.Bool.{Bool, true, not}
+use mathlib.Core.Path.{◌≡◌, refl, ap, ap₂, ◌∙◌}
+use mathlib.Core.Bool.{Bool, true, not, or-true}
 use mathlib.Core.List.{List, [], ◌∷◌, ◌++◌, map, append_assoc}
 use Prim.Native.Nat.{ℕ, suc, ◌+◌, ◌<◌, ◌≤◌}
 use native.Mathlib.Omega.{arith}
 use lib.Dec.{lit<}
 use lib.ListN.{length, length-map}
-use borrow.Author.Tests.{le-leb, eq-eqb, ne_eqb}
+use borrow.Author.Tests.{le-leb, eq-eqb}
+use Rattle.std.specs.Prelude.{Some, None, Ok}
 use Rattle.rule.specs.Cube.{sign0, sign1, dash, Cube}
 use Rattle.rule.specs.Number.{signs, cube_number, well_formed, first_malformed}
 use Rattle.rule.specs.Rows.{Row, fd, out1}
@@ -18,16 +19,14 @@ use Rattle.rule.proofs.Malformed.{all-formed}
 use Rattle.line.specs.Bytes.{bytes, is, is_newline, is_hash, is_blank, split, lines, fields, until, put_byte, words, filled, keep}
 use Rattle.line.specs.Decimal.{all, decimal}
 use Rattle.line.specs.Meaning.{is_sign, read_sign, columns_line, output_line, count_line, signed_line, is_cube, read_cube, row_line, pair_line, single_line, meaning_of, meaning, kind_of, out_of, row_of}
-use Rattle.line.specs.declared.meaning.Kind.TheVariants.{Fd}
 use Rattle.line.specs.declared.meaning.Out.TheVariants.{One}
 use Rattle.line.specs.declared.meaning.Line.{Line}
 use Rattle.line.proofs.Back.{none_of, all_append, Solid, split_piece, pair_newline, pair_fields, solid_decimal, number-decimal}
-use Rattle.text.specs.Outcome.{good, start, with_columns, with_output, with_count, with_row, allows_columns, allows_out, first, legal, step, complete, finish, put_row, add_row, follow, run, outcome}
+use Rattle.text.specs.Outcome.{good, start, with_columns, with_output, with_count, with_row, said, columns_are, allows_columns, allows_out, first, legal, step, count_right, complete, kind_or_fd, end_with, finish, put_row, add_row, follow, run, outcome}
 use Rattle.text.specs.Writing.{sign_byte, row_text, rows_text, joined, text_parts, list_text}
 use Rattle.rule.specs.Refusal.{first_broken}
 use Rattle.text.specs.Room.{padded}
 use Rattle.text.specs.Candidate.{is_good, cubes_of, read_conditions, read_by, read_answer, list_by, list_read}
-use Rattle.text.specs.declared.candidate.Candidate.TheVariants.{Done}
 use Rattle.text.specs.declared.judge.State.{State}
 use Rattle.text.specs.declared.judge.Step.TheVariants.{On}
 
@@ -156,30 +155,26 @@ run_on asked s s' k l ls m e f =
 
 -- The state in which j rows are still to come.
 record Ready (n : ℕ) (s : State) (j : ℕ) : Type 0 where
-  columns : s.columns ≡ n
+  columns : s.columns ≡ Some n
   output : s.output ≡ true
-  kind : s.kind ≡ Fd
-  counted : s.counted ≡ true
-  count : s.count ≡ s.rows + j
+  kind : s.kind ≡ None
+  count : s.count ≡ Some (s.rows + j)
 
-ready_ends : (n : ℕ) (s : State) (k : ℕ) → 1 ≤ n → Ready n s 0 → finish s k ≡ good n fd []
-unfolding finish complete kind_of
-ready_ends n s k l r =
-    let e : s.count ≡ s.rows = omega (arith, r.count) in
-    let h : s.columns ≡ 0 → ⊥ = λ z. omega (arith, r.columns) in
-    rw (ne_eqb s.columns 0 h) (rw r.output (rw r.counted (rw (eq-eqb s.count s.rows e)
-    (ap₂ (λ c t. good c (kind_of t) []) r.columns r.kind))))
+ready_ends : (n : ℕ) (s : State) (k : ℕ) → Ready n s 0 → finish s k ≡ good n fd []
+unfolding finish end_with complete count_right kind_or_fd kind_of said
+ready_ends n s k r =
+    let e : s.rows + 0 ≡ s.rows = omega arith in
+    rw r.columns (rw r.output (rw r.count (rw (eq-eqb (s.rows + 0) s.rows e) (rw r.kind refl))))
 
-ready_row : (n x : ℕ) (s : State) (j : ℕ) → 1 ≤ n → Ready n s (suc j) → step n s (Line.Row n x One) ≡ On (with_row s)
-unfolding step legal allows_out
-ready_row n x s j l r =
-    let h : s.columns ≡ 0 → ⊥ = λ z. omega (arith, r.columns) in
-    rw (ne_eqb s.columns 0 h) (rw r.output (rw (eq-eqb n s.columns (sym r.columns))))
+ready_row : (n x : ℕ) (s : State) (j : ℕ) → Ready n s (suc j) → step n s (Line.Row n x One) ≡ On (with_row s)
+unfolding step legal columns_are allows_out
+ready_row n x s j r = rw r.output (rw r.columns (rw (eq-eqb n n refl)))
 
 ready_next : (n : ℕ) (s : State) (j : ℕ) → Ready n s (suc j) → Ready n (with_row s) j
 unfolding with_row
 ready_next n s j r =
-    record { columns = r.columns; output = r.output; kind = r.kind; counted = r.counted; count = omega (arith, r.count) }
+    let e : s.rows + suc j ≡ s.rows + 1 + j = omega arith in
+    record { columns = r.columns; output = r.output; kind = r.kind; count = r.count ∙ ap (λ (k : ℕ). Some k) e }
 
 -- The row of a cube in a candidate.
 unfoldable pub row_on : ℕ → ℕ → Row
@@ -193,31 +188,33 @@ rows_run : (n : ℕ) (xs : List ℕ) (s : State) (k : ℕ) → 1 ≤ n → n ≤
     → run n s k (map (λ x. row_bytes (signs n x)) xs ++ ((46 ∷ 101 ∷ []) ∷ [])) ≡ good n fd (map (row_on n) xs)
 unfolding run follow step AllFormed
 rows_run n [] s k l h f r =
-    ap (λ t. follow (step n s t) k (finish s k) (λ u. run n u (k + 1) []) t) means_end ∙ ready_ends n s k l r
+    ap (λ t. follow (step n s t) k (finish s k) (λ u. run n u (k + 1) []) t) means_end ∙ ready_ends n s k r
 rows_run n (x ∷ xs) s k l h f r =
     run_on n s (with_row s) k (row_bytes (signs n x)) (map (λ y. row_bytes (signs n y)) xs ++ ((46 ∷ 101 ∷ []) ∷ [])) (Line.Row n x One)
-    (means-row n x l h f.0) (ready_row n x s (length xs) l r) ∙
+    (means-row n x l h f.0) (ready_row n x s (length xs) r) ∙
     ap (add_row (Line.Row n x One)) (rows_run n xs (with_row s) (k + 1) l h f.1 (ready_next n s (length xs) r)) ∙ added
   where
     added : add_row (Line.Row n x One) (good n fd (map (row_on n) xs)) ≡ good n fd (row_on n x ∷ map (row_on n) xs)
     added = row_added n x (map (row_on n) xs)
 
 -- The directives of a written text.
-first-columns : (n : ℕ) → 1 ≤ n → step n start (Line.Columns n) ≡ On (with_columns start n)
-unfolding step first legal allows_columns start
-first-columns n l = rw (ne_eqb n 0 (λ e. omega arith)) (rw (eq-eqb n n refl))
+first-columns : (n : ℕ) → step n start (Line.Columns n) ≡ On (with_columns start n)
+unfolding step first legal said allows_columns start
+first-columns n = rw (eq-eqb n n refl) (simp or-true)
 
 then_output : (n : ℕ) → step n (with_columns start n) Line.Output ≡ On (with_output (with_columns start n))
 unfolding step first legal start with_columns
 then_output n = refl
 
 then_count : (n m : ℕ) → step n (with_output (with_columns start n)) (Line.Count m) ≡ On (with_count (with_output (with_columns start n)) m)
-unfolding step first legal start with_columns with_output
+unfolding step first legal said start with_columns with_output
 then_count n m = refl
 
 then_ready : (n m : ℕ) → Ready n (with_count (with_output (with_columns start n)) m) m
 unfolding start with_columns with_output with_count
-then_ready n m = record { columns = refl; output = refl; kind = refl; counted = refl; count = omega arith }
+then_ready n m =
+    let e : m ≡ 0 + m = omega arith in
+    record { columns = refl; output = refl; kind = refl; count = ap (λ (k : ℕ). Some k) e }
 
 -- The theorem: a written list is a good candidate, and its rows are the cubes in order.
 module _ (n : ℕ) (xs : List ℕ) (l : 1 ≤ n) (h : n ≤ 16) (f : first_malformed n xs ≡ 0) where
@@ -231,7 +228,7 @@ module _ (n : ℕ) (xs : List ℕ) (l : 1 ≤ n) (h : n ≤ 16) (f : first_malfo
       let s₁ = with_columns start n in
       let s₂ = with_output s₁ in
       ap (run n start 1) (written-lines n xs) ∙
-      run_on n start s₁ 1 (46 ∷ 105 ∷ 32 ∷ decimal n) (output ∷ counted ∷ rows) (Line.Columns n) (means-columns n l h) (first-columns n l) ∙
+      run_on n start s₁ 1 (46 ∷ 105 ∷ 32 ∷ decimal n) (output ∷ counted ∷ rows) (Line.Columns n) (means-columns n l h) (first-columns n) ∙
       run_on n s₁ s₂ 2 output (counted ∷ rows) Line.Output means_output (then_output n) ∙
       run_on n s₂ (with_count s₂ m) 3 counted rows (Line.Count m) (means-count m b) (then_count n m) ∙
       rows_run n xs (with_count s₂ m) 4 l h (all-formed n xs f) (then_ready n m)
@@ -258,9 +255,9 @@ module _ (n : ℕ) (xs : List ℕ) (l : 1 ≤ n) (h : n ≤ 16) (few : length xs
       rw (le-leb 1 n l) (rw (le-leb n 16 h) (rw (le-leb (length (list_text n xs)) 32768 short) (rw (le-leb (length room) 16384 list)
       (rw (ap is_good read_whole) (rw (le-leb (length (cubes_of (outcome n (list_text n xs)))) (length room) fits))))))
 
-  pub written-answer : read_answer n (list_text n xs) (length room) ≡ Done (length xs)
+  pub written-answer : read_answer n (list_text n xs) (length room) ≡ Ok (length xs)
   unfolding read_answer read_by
-  written-answer = ap (λ r. read_by r (outcome n (list_text n xs))) nothing_broken ∙ ap (λ ys. Done (length ys)) same-cubes
+  written-answer = ap (λ r. read_by r (outcome n (list_text n xs))) nothing_broken ∙ ap (λ (ys : List ℕ). Ok (length ys)) same-cubes
 
   pub written-list : list_read n (list_text n xs) room ≡ padded xs room
   unfolding list_read list_by

@@ -1,41 +1,32 @@
 -- Written text: its parts put one after the other, its length, and the first refusal.
-use mathlib.Core.Path.{◌≡◌, refl, sym, ap, ap₂, ◌∙◌, subst}
+use mathlib.Core.Path.{◌≡◌, refl, sym, ap, ap₂, ◌∙◌}
 use mathlib.Core.Bool.{Bool, true, false, cond, ◌&&◌}
-use mathlib.Core.List.{List, [], ◌∷◌, ◌++◌, map, append_assoc, append-nil}
-use Prim.Native.Nat.{ℕ, zero, suc, ◌+◌, ◌*◌, ◌-◌, ◌/◌, ◌%◌, ◌<◌, ◌≤◌}
+use mathlib.Core.List.{List, [], ◌∷◌, ◌++◌, map}
+use mathlib.Core.Logic.{◌≢◌}
+use Prim.Native.Nat.{ℕ, zero, suc, ◌+◌, ◌*◌, ◌-◌, ◌/◌, ◌<◌, ◌≤◌}
 use native.Mathlib.Nat.{mul-le-mul}
 use native.Mathlib.Numerals.{add-one}
 use native.Mathlib.Omega.{arith}
 use lib.Dec.{eqb, leb, eqb-suc-zero}
-use lib.ListN.{length, get_or, drop, set, length-append, length-map, drop_of_length-le}
+use lib.ListN.{length, get_or, drop, length-append, length-map, drop_of_length-le}
 use lib.Seq.{sets, drop-cons}
 use borrow.Author.Tests.{le-leb, lt-leb, eq-eqb, ne_eqb, leb-true}
+use Rattle.std.specs.Prelude.{Result, Ok, Err}
 use Rattle.rule.specs.Point.{odd}
 use Rattle.rule.specs.Number.{sign_of, signs_from, signs, first_malformed}
-use Rattle.rule.specs.Refusal.{first_broken}
+use Rattle.rule.specs.Refusal.{first_broken, refusal_of}
+use Rattle.rule.specs.declared.refusal.Refusal.{Refusal}
+use Rattle.rule.specs.declared.refusal.Refusal.TheVariants.{ColumnsOver, ListOver, CubeMalformed, TextLacks}
+use Rattle.rule.specs.declared.refusal.Refused.{Refused}
 use Rattle.rule.proofs.Number.{length-signs}
 use Rattle.rule.proofs.Bools.{and_right}
+use Rattle.rule.proofs.Refusals.{first_named}
 use Rattle.line.specs.Bytes.{bytes}
-use Rattle.line.specs.Decimal.{decimal, digit}
-use Rattle.line.proofs.Decimal.{decimal_one, decimal-more}
+use Rattle.line.specs.Decimal.{decimal, decimal_of}
 use Rattle.text.specs.Room.{cleared, padded, Put}
 use Rattle.text.specs.Writing.{sign_byte, row_text, rows_text, joined, text_parts, list_text, write_conditions, write_returns, answer_by, write_answer, numbers_of, numbers_for, room_by, room_written, Wrote, Writable}
-use Rattle.text.specs.declared.writing.Written.{Written}
-use Rattle.text.specs.declared.writing.Written.TheVariants.{Done, Refused}
-use Rattle.text.proofs.Room.{put_then, sets_one, cleared-padded}
-
--- The byte of a column by its two bits.
-pub byte_one : (o z : ℕ) → o % 2 ≡ 1 → 49 ≡ sign_byte (sign_of (odd o) (odd z))
-unfolding odd sign_of sign_byte
-byte_one o z e = sym (ap (λ b. sign_byte (sign_of b (odd z))) (eq-eqb (o % 2) 1 e))
-
-pub byte_zero : (o z : ℕ) → (o % 2 ≡ 1 → ⊥) → z % 2 ≡ 1 → 48 ≡ sign_byte (sign_of (odd o) (odd z))
-unfolding odd sign_of sign_byte
-byte_zero o z n e = sym (ap₂ (λ a b. sign_byte (sign_of a b)) (ne_eqb (o % 2) 1 n) (eq-eqb (z % 2) 1 e))
-
-pub byte_dash : (o z : ℕ) → (o % 2 ≡ 1 → ⊥) → (z % 2 ≡ 1 → ⊥) → 45 ≡ sign_byte (sign_of (odd o) (odd z))
-unfolding odd sign_of sign_byte
-byte_dash o z n e = sym (ap₂ (λ a b. sign_byte (sign_of a b)) (ne_eqb (o % 2) 1 n) (ne_eqb (z % 2) 1 e))
+use Rattle.text.proofs.Room.{Left, all_left, first_fits, left-put, none_left, cleared-padded}
+use Rattle.text.proofs.Numerals.{numeral-decimal}
 
 -- The bytes of some columns' signs.
 abbrev pub sign_bytes : ℕ → ℕ → ℕ → List ℕ
@@ -46,46 +37,40 @@ unfolding signs_from
 length_sign_bytes zero o z = refl
 length_sign_bytes (suc n) o z = ap suc (length_sign_bytes n (o / 2) (z / 2))
 
--- One column more is stored, and none is left.
-pub next_sign : (room : List ℕ) (i left o z b : ℕ) → 0 < left → b ≡ sign_byte (sign_of (odd o) (odd z))
-    → sets room i (sign_bytes left o z) ≡ sets (set room i b) (i + 1) (sign_bytes (left - 1) (o / 2) (z / 2))
+-- One column and the others: at first all are left, and then one less.
+first_sign : (left o z : ℕ) → 0 < left
+    → sign_bytes left o z ≡ (sign_byte (sign_of (odd o) (odd z)) ∷ []) ++ sign_bytes (left - 1) (o / 2) (z / 2)
 unfolding signs_from
-next_sign room i zero o z b h e = let x : ⊥ = omega arith in absurd x
-next_sign room i (suc m) o z b h e =
-    let k : suc m - 1 ≡ m = omega arith in
-    sets_one room i (sign_byte (sign_of (odd o) (odd z))) (sign_bytes m (o / 2) (z / 2)) ∙
-    ap₂ (λ c l. sets (set room i c) (i + 1) (sign_bytes l (o / 2) (z / 2))) (sym e) (sym k)
+first_sign zero o z h = let x : ⊥ = omega arith in absurd x
+first_sign (suc m) o z h =
+    let k : m ≡ suc m - 1 = omega arith in
+    ap (λ l. sign_byte (sign_of (odd o) (odd z)) ∷ sign_bytes l (o / 2) (z / 2)) k
 
-pub no_sign : (room : List ℕ) (i left o z : ℕ) → left ≤ 0 → sets room i (sign_bytes left o z) ≡ room
+pub all_signs : (room : List ℕ) (i n o z : ℕ) → i + n ≤ length room
+    → Left room i (sign_bytes n o z) room i (sign_bytes (n - 0) o z)
+all_signs room i n o z h =
+    let k : n - 0 ≡ n = omega arith in
+    rw k (all_left room i (sign_bytes n o z) (omega (arith, length_sign_bytes n o z)))
+
+pub sign_fits : {room whole room' : List ℕ} {i r : ℕ} → (left o z : ℕ) → Left room i whole room' r (sign_bytes left o z)
+    → 0 < left → r < length room'
+sign_fits left o z l h = omega (arith, l.fits, length_sign_bytes left o z)
+
+pub sign_put : {room whole room' room'' : List ℕ} {i r s b : ℕ} → (left o z k : ℕ)
+    → Left room i whole room' r (sign_bytes left o z) → Put room' r (b ∷ []) room'' s → b ≡ sign_byte (sign_of (odd o) (odd z))
+    → left ≡ k + 1 → Left room i whole room'' s (sign_bytes k (o / 2) (z / 2))
+sign_put {room} {whole} {room'} {room''} {i} {r} {s} left o z k l p e f =
+    let g : left - 1 ≡ k = omega arith in
+    let q : Put room' r (sign_byte (sign_of (odd o) (odd z)) ∷ []) room'' s = rw e at p in
+    let t : Left room i whole room'' s (sign_bytes (left - 1) (o / 2) (z / 2)) =
+    left-put (sign_bytes (left - 1) (o / 2) (z / 2)) (rw (first_sign left o z (omega arith)) at l) q
+    in
+    rw g at t
+
+pub no_sign : {room whole room' : List ℕ} {i r : ℕ} → (left o z : ℕ) → Left room i whole room' r (sign_bytes left o z)
+    → left ≡ 0 → Put room i whole room' r
 unfolding signs_from
-no_sign room i zero o z h = refl
-no_sign room i (suc m) o z h = let x : ⊥ = omega arith in absurd x
-
--- One byte more of a word is stored, and none is left.
-pub next_byte : (room : List ℕ) (i : ℕ) (word : List ℕ) (j : ℕ) → j < length word
-    → sets room i (drop j word) ≡ sets (set room i (get_or word j 0)) (i + 1) (drop (j + 1) word)
-next_byte room i word j h =
-    ap (sets room i) (drop-cons word j 0 h) ∙ sets_one room i (get_or word j 0) (drop (suc j) word) ∙
-    ap (λ k. sets (set room i (get_or word j 0)) (i + 1) (drop k word)) (sym (add-one j))
-
-pub no_byte : (room : List ℕ) (i : ℕ) (word : List ℕ) (j : ℕ) → length word ≤ j → sets room i (drop j word) ≡ room
-no_byte room i word j h = ap (sets room i) (drop_of_length-le word h)
-
--- A number's only digit, and its last one.
-pub put_one : (room : List ℕ) (i n : ℕ) → n < 10 → Put room i (decimal n) (set room i (48 + n)) (i + 1)
-unfolding digit
-put_one room i n h =
-    record { stored = sym (ap (sets room i) (decimal_one n h)); next = ap (λ w. i + length w) (sym (decimal_one n h)) }
-
-pub put_last : {room room' : List ℕ} {i r n : ℕ} → 10 ≤ n → n < 100000 → Put room i (decimal (n / 10)) room' r
-    → Put room i (decimal n) (set room' r (48 + n % 10)) (r + 1)
-unfolding digit
-put_last {room} {room'} {i} {r} {n} h b p =
-    subst (λ w. Put room i w (set room' r (48 + n % 10)) (r + 1)) (sym (decimal-more n h b))
-    (put_then p (record { stored = refl; next = refl }))
-
-pub tenth_shorter : (n : ℕ) → 10 ≤ n → n < 100000 → length (decimal n) ≡ length (decimal (n / 10)) + 1
-tenth_shorter n h b = ap length (decimal-more n h b) ∙ length-append (decimal (n / 10)) (digit (n % 10) ∷ [])
+no_sign left o z l e = none_left (rw e at l)
 
 -- The length of a row and of rows.
 pub length-row : (n x : ℕ) → length (row_text (signs n x)) ≡ n + 3
@@ -101,22 +86,28 @@ length-rows n (x ∷ xs) =
     length-append (row_text (signs n x)) (rows_text n xs) ∙ ap₂ ◌+◌ (length-row n x) (length-rows n xs) ∙
     native.Mathlib.Nat.add_comm (n + 3) (length xs * (n + 3)) ∙ sym (native.Mathlib.Nat.suc-mul (length xs) (n + 3))
 
--- One row more is stored, and none is left.
-pub first-row : (n : ℕ) (xs : List ℕ) (j : ℕ) → j < length xs
-    → rows_text n (drop j xs) ≡ row_text (signs n (get_or xs j 0)) ++ rows_text n (drop (j + 1) xs)
-unfolding rows_text
-first-row n xs j h =
-    ap (rows_text n) (drop-cons xs j 0 h) ∙
-    ap (λ k. row_text (signs n (get_or xs j 0)) ++ rows_text n (drop k xs)) (sym (add-one j))
+-- One row and the others, and no row.
+module _ {room whole room' : List ℕ} {i r : ℕ} (n : ℕ) (xs : List ℕ) (j : ℕ)
+    (l : Left room i whole room' r (rows_text n (drop j xs))) where
+  first_row : j < length xs → Left room i whole room' r (row_text (signs n (get_or xs j 0)) ++ rows_text n (drop (j + 1) xs))
+  unfolding rows_text
+  first_row h =
+      let e : rows_text n (drop j xs) ≡ row_text (signs n (get_or xs j 0)) ++ rows_text n (drop (j + 1) xs) =
+      ap (rows_text n) (drop-cons xs j 0 h) ∙
+      ap (λ k. row_text (signs n (get_or xs j 0)) ++ rows_text n (drop k xs)) (sym (add-one j))
+      in
+      rw e at l
 
-pub length-first-row : (n : ℕ) (xs : List ℕ) (j : ℕ) → j < length xs
-    → length (rows_text n (drop j xs)) ≡ length (row_text (signs n (get_or xs j 0))) + length (rows_text n (drop (j + 1) xs))
-length-first-row n xs j h =
-    ap length (first-row n xs j h) ∙ length-append (row_text (signs n (get_or xs j 0))) (rows_text n (drop (j + 1) xs))
+  pub row_fits : j < length xs → r + length (row_text (signs n (get_or xs j 0))) ≤ length room'
+  row_fits h = first_fits (row_text (signs n (get_or xs j 0))) (rows_text n (drop (j + 1) xs)) (first_row h)
 
-pub no_row : (n : ℕ) (xs : List ℕ) (j : ℕ) → length xs ≤ j → rows_text n (drop j xs) ≡ []
-unfolding rows_text
-no_row n xs j h = ap (rows_text n) (drop_of_length-le xs h)
+  pub row_put : {room'' : List ℕ} {s : ℕ} → j < length xs → Put room' r (row_text (signs n (get_or xs j 0))) room'' s
+      → Left room i whole room'' s (rows_text n (drop (j + 1) xs))
+  row_put h p = left-put (rows_text n (drop (j + 1) xs)) (first_row h) p
+
+  pub no_row : length xs ≤ j → Put room i whole room' r
+  unfolding rows_text
+  no_row h = none_left (rw (drop_of_length-le xs h) at l)
 
 -- The bytes of a list's text.
 pub length_text : (n : ℕ) (xs : List ℕ)
@@ -138,28 +129,34 @@ pub few_bytes : (n : ℕ) (xs : List ℕ) → n ≤ 16 → length xs ≤ 16384 �
 few_bytes n xs h k = let w : n + 3 ≤ 19 = omega arith in let p : length xs * (n + 3) ≤ 16384 * 19 = mul-le-mul k w in p
 
 -- The answer, test by test.
+abbrev pub gives : Refusal → ℕ → Result ℕ Refused
+gives r v = Err (record { refusal = r; returned = v })
+
+pub given : {r : Refusal} {v : ℕ} {e : Refused} → e.refusal ≡ r → e.returned ≡ v → Err e ≡ gives r v
+given a b = λ i. Err (record { refusal = a i; returned = b i })
+
 module _ (n : ℕ) (xs : List ℕ) (room : ℕ) where
-  pub no_columns : n < 1 → Refused 1 0 ≡ write_answer n xs room
-  unfolding write_answer write_conditions first_broken answer_by write_returns
+  pub no_columns : n < 1 → gives ColumnsOver 0 ≡ write_answer n xs room
+  unfolding write_answer write_conditions first_broken answer_by write_returns refusal_of
   no_columns h = rw (lt-leb 1 n h)
 
-  pub over-columns : 1 ≤ n → 16 < n → Refused 1 0 ≡ write_answer n xs room
-  unfolding write_answer write_conditions first_broken answer_by write_returns
+  pub over-columns : 1 ≤ n → 16 < n → gives ColumnsOver 0 ≡ write_answer n xs room
+  unfolding write_answer write_conditions first_broken answer_by write_returns refusal_of
   over-columns l h = rw (le-leb 1 n l) (rw (lt-leb n 16 h))
 
-  pub over-list : 1 ≤ n → n ≤ 16 → 16384 < length xs → Refused 6 0 ≡ write_answer n xs room
-  unfolding write_answer write_conditions first_broken answer_by write_returns
+  pub over-list : 1 ≤ n → n ≤ 16 → 16384 < length xs → gives ListOver 0 ≡ write_answer n xs room
+  unfolding write_answer write_conditions first_broken answer_by write_returns refusal_of
   over-list l h k = rw (le-leb 1 n l) (rw (le-leb n 16 h) (rw (lt-leb (length xs) 16384 k)))
 
-  pub has_malformed : 1 ≤ n → n ≤ 16 → length xs ≤ 16384 → (first_malformed n xs ≡ 0 → ⊥)
-      → Refused 9 (first_malformed n xs) ≡ write_answer n xs room
-  unfolding write_answer write_conditions first_broken answer_by write_returns
+  pub has_malformed : 1 ≤ n → n ≤ 16 → length xs ≤ 16384 → first_malformed n xs ≢ 0
+      → gives CubeMalformed (first_malformed n xs) ≡ write_answer n xs room
+  unfolding write_answer write_conditions first_broken answer_by write_returns refusal_of
   has_malformed l h k m =
       rw (le-leb 1 n l) (rw (le-leb n 16 h) (rw (le-leb (length xs) 16384 k) (rw (ne_eqb (first_malformed n xs) 0 m))))
 
   pub too_short : 1 ≤ n → n ≤ 16 → length xs ≤ 16384 → first_malformed n xs ≡ 0 → room < length (list_text n xs)
-      → Refused 13 (length (list_text n xs)) ≡ write_answer n xs room
-  unfolding write_answer write_conditions first_broken answer_by write_returns
+      → gives TextLacks (length (list_text n xs)) ≡ write_answer n xs room
+  unfolding write_answer write_conditions first_broken answer_by write_returns refusal_of
   too_short l h k m s =
       rw (le-leb 1 n l) (rw (le-leb n 16 h) (rw (le-leb (length xs) 16384 k) (rw (eq-eqb (first_malformed n xs) 0 m)
       (rw (lt-leb (length (list_text n xs)) room s)))))
@@ -172,15 +169,69 @@ module _ (n : ℕ) (xs : List ℕ) (room : ℕ) where
       (rw (le-leb (length (list_text n xs)) room s)))))
 
   pub fitting : 1 ≤ n → n ≤ 16 → length xs ≤ 16384 → first_malformed n xs ≡ 0 → length (list_text n xs) ≤ room
-      → Done (length (list_text n xs)) ≡ write_answer n xs room
+      → Ok (length (list_text n xs)) ≡ write_answer n xs room
   unfolding write_answer answer_by
   fitting l h k m s = sym (ap (λ r. answer_by r n xs) (all-kept l h k m s))
 
--- The parts of a text, as they are put one after the other.
-pub text_whole : (n : ℕ) (xs : List ℕ)
-    → bytes ".i " ++ decimal n ++ bytes "\n.o 1\n.p " ++ decimal (length xs) ++ bytes "\n" ++ rows_text n xs ++ bytes ".e\n" ≡ list_text n xs
-unfolding list_text joined text_parts
-text_whole n xs = simp (append_assoc, append-nil)
+-- The parts of a text that are left to be put.
+pub record Parts (whole : List ℕ) (room : List ℕ) (room' : List ℕ) (r : ℕ) (parts : List (List ℕ)) : Type 0 where
+  pub left : Left room 0 whole room' r (joined parts)
+
+module _ {whole room room' : List ℕ} {r : ℕ} where
+  pub part_fits : {p : List ℕ} {ps : List (List ℕ)} → Parts whole room room' r (p ∷ ps) → r + length p ≤ length room'
+  unfolding joined
+  part_fits {p} {ps} t = first_fits p (joined ps) t.left
+
+  pub part_put : {p room'' : List ℕ} {ps : List (List ℕ)} {s : ℕ} → Parts whole room room' r (p ∷ ps) → Put room' r p room'' s
+      → Parts whole room room'' s ps
+  unfolding joined
+  part_put {ps = ps} t p = record { left = left-put (joined ps) t.left p }
+
+  pub parts_done : Parts whole room room' r [] → Put room 0 whole room' r
+  unfolding joined
+  parts_done t = none_left t.left
+
+-- The parts of a list's text, as they are put one after the other, and what is left once the first k are.
+abbrev pub put_parts : ℕ → List ℕ → List (List ℕ)
+put_parts n xs =
+    bytes ".i " ∷ decimal_of 9 n ∷ bytes "\n.o 1\n.p " ∷ decimal_of 9 (length xs) ∷ bytes "\n" ∷ rows_text n xs ∷ bytes ".e\n" ∷ []
+
+abbrev pub PartsFrom : ℕ → ℕ → List ℕ → List ℕ → List ℕ → ℕ → Type 0
+PartsFrom k n xs room room' r = Parts (list_text n xs) room room' r (drop k (put_parts n xs))
+
+module _ {n : ℕ} {xs room : List ℕ} (w : Writable n xs (length room)) where
+  pub no_part : PartsFrom 0 n xs room room 0
+  unfolding list_text text_parts
+  no_part =
+      rw (numeral-decimal n (omega (arith, w.columns))) (rw (numeral-decimal (length xs) (omega (arith, w.few)))
+      (record { left = all_left room 0 (list_text n xs) (omega (arith, w.fits)) }))
+
+  module _ {room₁ : List ℕ} {r₁ : ℕ} (p₁ : Put room 0 (bytes ".i ") room₁ r₁) where
+    pub one_part : PartsFrom 1 n xs room room₁ r₁
+    one_part = part_put no_part p₁
+
+    module _ {room₂ : List ℕ} {r₂ : ℕ} (p₂ : Put room₁ r₁ (decimal_of 9 n) room₂ r₂) where
+      pub two_parts : PartsFrom 2 n xs room room₂ r₂
+      two_parts = part_put one_part p₂
+
+      module _ {room₃ : List ℕ} {r₃ : ℕ} (p₃ : Put room₂ r₂ (bytes "\n.o 1\n.p ") room₃ r₃) where
+        pub three_parts : PartsFrom 3 n xs room room₃ r₃
+        three_parts = part_put two_parts p₃
+
+        module _ {room₄ : List ℕ} {r₄ : ℕ} (p₄ : Put room₃ r₃ (decimal_of 9 (length xs)) room₄ r₄) where
+          pub four_parts : PartsFrom 4 n xs room room₄ r₄
+          four_parts = part_put three_parts p₄
+
+          module _ {room₅ : List ℕ} {r₅ : ℕ} (p₅ : Put room₄ r₄ (bytes "\n") room₅ r₅) where
+            pub five_parts : PartsFrom 5 n xs room room₅ r₅
+            five_parts = part_put four_parts p₅
+
+            module _ {room₆ : List ℕ} {r₆ : ℕ} (p₆ : Put room₅ r₅ (rows_text n xs) room₆ r₆) where
+              pub six_parts : PartsFrom 6 n xs room room₆ r₆
+              six_parts = part_put five_parts p₆
+
+              pub all_parts : {room₇ : List ℕ} {r₇ : ℕ} → Put room₆ r₆ (bytes ".e\n") room₇ r₇ → Put room 0 (list_text n xs) room₇ r₇
+              all_parts p₇ = parts_done (part_put six_parts p₇)
 
 -- A whole text put from the front, with the rest of the room cleared.
 pub put-padded : {room room' : List ℕ} {r : ℕ} {w : List ℕ} → Put room 0 w room' r → (text : List ℕ) → w ≡ text
@@ -208,47 +259,47 @@ module _ (n : ℕ) (xs : List ℕ) (room : List ℕ) where
         fits = leb-true (length (list_text n xs)) (length room) g.0;
       }
 
-  pub done-writes : (w : Written) (k : ℕ) → w ≡ write_answer n xs (length room) → w ≡ Done k
-      → Writable n xs (length room) × (padded (list_text n xs) room ≡ room_written n xs room)
-  unfolding write_answer room_written answer_by room_by
-  done-writes w k e f = go (first_broken (write_conditions n xs (length room))) refl
-    where
-      go : (r : ℕ) → first_broken (write_conditions n xs (length room)) ≡ r
-          → Writable n xs (length room) × (padded (list_text n xs) room ≡ room_by (first_broken (write_conditions n xs (length room))) n xs room)
-      go zero z = (none-broken z, ap (λ r. room_by r n xs room) (sym z))
-      go (suc r) z =
-          let g : Refused (suc r) (write_returns n xs (suc r)) ≡ Done k = sym (ap (λ r. answer_by r n xs) z) ∙ sym e ∙ f in
-          let x : ◌≡◌ {A = ℕ} 0 1 = cc in
-          let y : ⊥ = omega arith in
-          absurd y
+  none_refused : {k : ℕ} (r : ℕ) → answer_by r n xs ≡ Ok k → r ≡ 0
+  unfolding answer_by
+  none_refused zero e = refl
+  none_refused (suc r) e = search e
 
-  pub refused_keeps : (w : Written) (a b : ℕ) → w ≡ write_answer n xs (length room) → w ≡ Refused a b
-      → room ≡ room_written n xs room
-  unfolding write_answer room_written answer_by room_by
-  refused_keeps w a b e f = go (first_broken (write_conditions n xs (length room))) refl
-    where
-      go : (r : ℕ) → first_broken (write_conditions n xs (length room)) ≡ r
-          → room ≡ room_by (first_broken (write_conditions n xs (length room))) n xs room
-      go zero z =
-          let g : Done (length (list_text n xs)) ≡ Refused a b = sym (ap (λ r. answer_by r n xs) z) ∙ sym e ∙ f in
-          let x : ◌≡◌ {A = ℕ} 0 1 = cc in
-          let y : ⊥ = omega arith in
-          absurd y
-      go (suc r) z = ap (λ r. room_by r n xs room) (sym z)
+  one_refused : {f : Refused} (r : ℕ) → answer_by r n xs ≡ Err f → room_by r n xs room ≡ room
+  unfolding answer_by room_by
+  one_refused zero e = search e
+  one_refused (suc r) e = refl
 
--- The answer has the numbers of its refusal.
-answer-numbers : (n : ℕ) (xs : List ℕ) (r : ℕ) → numbers_of (answer_by r n xs) ≡ numbers_for r n xs
-unfolding numbers_of numbers_for answer_by write_returns
-answer-numbers n xs zero = refl
-answer-numbers n xs (suc r) =
-    λ i.
-    record {
-      refusal = suc r;
-      returned = write_returns n xs (suc r);
-      written = cond (sym (eqb-suc-zero r) i) (length (list_text n xs)) 0;
-    }
+  -- The answer has the numbers of its refusal.
+  answer-numbers : (r : ℕ) → first_broken (write_conditions n xs (length room)) ≡ r
+      → numbers_of (answer_by r n xs) ≡ numbers_for r n xs
+  unfolding numbers_of numbers_for answer_by write_returns write_conditions
+  answer-numbers zero e = refl
+  answer-numbers (suc r) e =
+      λ i.
+      record {
+        refusal = first_named (write_conditions n xs (length room)) r refl e i;
+        returned = write_returns n xs (suc r);
+        written = cond (sym (eqb-suc-zero r) i) (length (list_text n xs)) 0;
+      }
 
-pub wrote : (n : ℕ) (xs : List ℕ) (room : List ℕ) (room' : List ℕ) (w : Written) → w ≡ write_answer n xs (length room) → room' ≡ room_written n xs room → Wrote n xs room room' w
-unfolding write_answer
-wrote n xs room room' w e f =
-    record { answer = e; numbers = ap numbers_of e ∙ answer-numbers n xs (first_broken (write_conditions n xs (length room))); left = f }
+  pub wrote : {room' : List ℕ} {w : Result ℕ Refused} → w ≡ write_answer n xs (length room) → room' ≡ room_written n xs room
+      → Wrote n xs room room' w
+  unfolding write_answer
+  wrote e f =
+      let r = first_broken (write_conditions n xs (length room)) in
+      record { answer = e; numbers = ap numbers_of e ∙ answer-numbers r refl; left = f }
+
+  pub done_writable : {k : ℕ} → Ok k ≡ write_answer n xs (length room) → Writable n xs (length room)
+  unfolding write_answer
+  done_writable e = none-broken (none_refused (first_broken (write_conditions n xs (length room))) (sym e))
+
+  pub done_wrote : {k : ℕ} {room' : List ℕ} → Ok k ≡ write_answer n xs (length room) → room' ≡ padded (list_text n xs) room
+      → Wrote n xs room room' (Ok k)
+  unfolding write_answer room_written room_by
+  done_wrote e f =
+      let z = none_refused (first_broken (write_conditions n xs (length room))) (sym e) in
+      wrote e (f ∙ sym (ap (λ r. room_by r n xs room) z))
+
+  pub refused_wrote : {f : Refused} → Err f ≡ write_answer n xs (length room) → Wrote n xs room room (Err f)
+  unfolding write_answer room_written
+  refused_wrote e = wrote e (sym (one_refused (first_broken (write_conditions n xs (length room))) (sym e)))

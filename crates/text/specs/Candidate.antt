@@ -1,13 +1,12 @@
 -- The entry that reads a candidate: what it refuses, what it answers, and what it leaves behind.
-use Rattle.std.specs.Prelude.{◌≡◌, Bool, true, false, cond, ◌&&◌, ◌||◌, List, [], ◌∷◌, ◌++◌, map, ℕ, zero, suc, eqb, leb, length}
+use Rattle.std.specs.Prelude.{◌≡◌, Bool, true, false, cond, ◌&&◌, ◌||◌, List, [], ◌∷◌, ◌++◌, map, ℕ, zero, suc, eqb, leb, length, Result, Ok, Err}
 use Rattle.rule.specs.Number.{cube_number}
-use Rattle.rule.specs.Refusal.{Condition, first_broken, columns_over, text_over, list_over, text_fault, list_lacks}
+use Rattle.rule.specs.Refusal.{Condition, first_broken, columns_over, text_over, list_over, text_fault, list_lacks, number_of, refusal_of}
+use Rattle.rule.specs.declared.refusal.Refused.{Refused}
 use Rattle.line.specs.Meaning.{meaning, is_end}
 use Rattle.line.specs.declared.meaning.Line.{Line}
 use Rattle.text.specs.Outcome.{Outcome, good, fault, outcome}
 use Rattle.text.specs.Room.{cleared, padded}
-use Rattle.text.specs.declared.candidate.Candidate.{Candidate}
-use Rattle.text.specs.declared.candidate.Candidate.TheVariants.{Done, Refused}
 
 -- Whether a text has no fault, the line of its fault, and the numbers of its rows' cubes in order.
 unfoldable pub is_good : Outcome → Bool
@@ -37,11 +36,11 @@ unfoldable pub read_returns : Outcome → ℕ → ℕ
 read_returns w r = cond (eqb r text_fault) (fault_line w) (cond (eqb r list_lacks) (length (cubes_of w)) 0)
 
 -- The answer: the first broken condition with what it returns, else the number of rows.
-unfoldable pub read_by : ℕ → Outcome → Candidate
-read_by zero w = Done (length (cubes_of w))
-read_by (suc r) w = Refused (suc r) (read_returns w (suc r))
+unfoldable pub read_by : ℕ → Outcome → Result ℕ Refused
+read_by zero w = Ok (length (cubes_of w))
+read_by (suc r) w = Err (record { refusal = refusal_of (suc r); returned = read_returns w (suc r) })
 
-unfoldable pub read_answer : ℕ → List ℕ → ℕ → Candidate
+unfoldable pub read_answer : ℕ → List ℕ → ℕ → Result ℕ Refused
 read_answer n text room = read_by (first_broken (read_conditions n text room)) (outcome n text)
 
 -- The numbers of an answer, as document 01 has them: the refusal or 0, what it returns, and the length of the list.
@@ -50,9 +49,9 @@ pub record ReadNumbers : Type 0 where
   pub returned : ℕ
   pub rows : ℕ
 
-unfoldable pub read_numbers : Candidate → ReadNumbers
-read_numbers (Done k) = record { refusal = 0; returned = 0; rows = k }
-read_numbers (Refused r v) = record { refusal = r; returned = v; rows = 0 }
+unfoldable pub read_numbers : Result ℕ Refused → ReadNumbers
+read_numbers (Ok k) = record { refusal = 0; returned = 0; rows = k }
+read_numbers (Err r) = record { refusal = number_of r.refusal; returned = r.returned; rows = 0 }
 
 -- The numbers for a refusal or 0.
 unfoldable pub numbers_for : ℕ → Outcome → ReadNumbers
@@ -67,7 +66,7 @@ unfoldable pub list_read : ℕ → List ℕ → List ℕ → List ℕ
 list_read n text room = list_by (first_broken (read_conditions n text (length room))) (outcome n text) room
 
 -- What the reading entry promises.
-pub record Read (n : ℕ) (text : List ℕ) (room : List ℕ) (room' : List ℕ) (r : Candidate) : Type 0 where
+pub record Read (n : ℕ) (text : List ℕ) (room : List ℕ) (room' : List ℕ) (r : Result ℕ Refused) : Type 0 where
   pub answer : r ≡ read_answer n text (length room)
   pub numbers : read_numbers r ≡ numbers_for (first_broken (read_conditions n text (length room))) (outcome n text)
   pub left : room' ≡ list_read n text room

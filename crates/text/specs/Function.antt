@@ -1,7 +1,8 @@
 -- The entry that reads a function text: what it refuses, what it answers, and what it leaves behind.
-use Rattle.std.specs.Prelude.{◌≡◌, Bool, false, cond, not, ◌&&◌, ◌||◌, List, [], ◌∷◌, ◌++◌, ℕ, suc, ◌<◌, eqb, leb, length}
+use Rattle.std.specs.Prelude.{◌≡◌, Bool, false, cond, not, ◌&&◌, ◌||◌, List, [], ◌∷◌, ◌++◌, ℕ, suc, ◌<◌, eqb, leb, length, Option, Some, None, Result, Ok, Err}
 use Rattle.rule.specs.Nodes.{add_all}
-use Rattle.rule.specs.Refusal.{Condition, first_broken, text_over, table_over, text_fault, nodes_lack, on_and_off}
+use Rattle.rule.specs.Refusal.{Condition, first_broken, text_over, table_over, text_fault, nodes_lack, on_and_off, number_of, refusal_of}
+use Rattle.rule.specs.declared.refusal.Refused.{Refused}
 use Rattle.rule.specs.Rows.{Kind, Row, lower_of, upper_of, contradicts, reading_names, reading_need}
 use Rattle.graph.specs.Entry.{cleared}
 use Rattle.graph.specs.Run.{Names}
@@ -11,8 +12,11 @@ use Rattle.line.specs.Meaning.{meaning, is_end, row_of}
 use Rattle.line.specs.declared.meaning.Line.{Line}
 use Rattle.text.specs.Outcome.{Outcome, good, fault, outcome}
 use Rattle.text.specs.Candidate.{is_good, fault_line}
+use Rattle.graph.specs.declared.build.TableMut.{TableMut}
+use Rattle.memo.specs.declared.build.Operations.{Operations}
+use Rattle.rows.specs.Naming.{NamedOf}
+use Rattle.rows.specs.declared.naming.Sets.{Sets}
 use Rattle.text.specs.declared.function.Function.{Function}
-use Rattle.text.specs.declared.function.Function.TheVariants.{Done, Refused}
 
 -- The node need of a text, and whether a point is both on and off: faulty texts have neither.
 unfoldable pub need_of : Outcome → ℕ
@@ -46,9 +50,11 @@ pub record FunctionNumbers : Type 0 where
   pub lower : ℕ
   pub upper : ℕ
 
-unfoldable pub function_numbers : Function → FunctionNumbers
-function_numbers (Done n c a b) = record { refusal = 0; returned = 0; columns = n; count = c; lower = a; upper = b }
-function_numbers (Refused r x) = record { refusal = r; returned = x; columns = 0; count = 0; lower = 0; upper = 0 }
+unfoldable pub function_numbers : Result Function Refused → FunctionNumbers
+function_numbers (Ok f) =
+    record { refusal = 0; returned = 0; columns = f.columns; count = f.count; lower = f.lower; upper = f.upper }
+function_numbers (Err r) =
+    record { refusal = number_of r.refusal; returned = r.returned; columns = 0; count = 0; lower = 0; upper = 0 }
 
 -- What a refusal returns: 11 the line of the first fault, the others 0.
 unfoldable pub function_returns : List ℕ → ℕ → ℕ
@@ -60,8 +66,8 @@ table_left r s = cond (eqb r text_over || eqb r table_over) s (cleared 0 s)
 
 module _ (text : List ℕ) (v : List ℕ) (l : List ℕ) (h : List ℕ) (v' : List ℕ) (l' : List ℕ) (h' : List ℕ) where
   -- Refused: the number with what it returns, and the slices left as the number says.
-  pub record NotRead (r : ℕ) (a : Function) : Type 0 where
-    pub answer : a ≡ Refused r (function_returns text r)
+  pub record NotRead (r : ℕ) (a : Result Function Refused) : Type 0 where
+    pub answer : a ≡ Err (record { refusal = refusal_of r; returned = function_returns text r })
     pub numbers : function_numbers a
         ≡ record { refusal = r; returned = function_returns text r; columns = 0; count = 0; lower = 0; upper = 0 }
     pub level : v' ≡ table_left r v
@@ -70,11 +76,11 @@ module _ (text : List ℕ) (v : List ℕ) (l : List ℕ) (h : List ℕ) (v' : Li
 
   -- Done, for a text of n columns, type t and some rows: L and U have the functions that the rows mean; the records are the
   -- nodes that the rows name, in order; all past them is zero.
-  pub record HasRead (n : ℕ) (t : Kind) (rows : List Row) (a : Function) : Type 0 where
+  pub record HasRead (n : ℕ) (t : Kind) (rows : List Row) (a : Result Function Refused) : Type 0 where
     pub count : ℕ
     pub lower : ℕ
     pub upper : ℕ
-    pub answer : a ≡ Done n count lower upper
+    pub answer : a ≡ Ok (record { columns = n; count = count; lower = lower; upper = upper })
     pub numbers : function_numbers a
         ≡ record { refusal = 0; returned = 0; columns = n; count = count; lower = lower; upper = upper }
     pub sound : Sound n count v' l' h'
@@ -87,7 +93,7 @@ module _ (text : List ℕ) (v : List ℕ) (l : List ℕ) (h : List ℕ) (v' : Li
     pub high : h' ≡ cleared count h'
 
   -- What the entry promises.
-  pub record ReadsFunction (a : Function) : Type 0 where
+  pub record ReadsFunction (a : Result Function Refused) : Type 0 where
     pub refused : (r : ℕ) → function_refusal text v l h ≡ suc r → NotRead (suc r) a
     pub done : function_refusal text v l h ≡ 0 → (n : ℕ) (t : Kind) (rows : List Row) → outcome 0 text ≡ good n t rows
         → HasRead n t rows a
@@ -132,9 +138,9 @@ module _ (n : ℕ) (t : Kind) (rows : List Row) (room : ℕ) (v' : List ℕ) (l'
     pub wide : length v' ≡ room
     pub sized : Sized 0 v' l' h'
 
-  unfoldable pub BuiltOf : Function → Type 0
-  BuiltOf (Done k c a b) = FunctionBuilt k c a b
-  BuiltOf (Refused r x) = FunctionLacks r x
+  unfoldable pub BuiltOf : Result Function Refused → Type 0
+  BuiltOf (Ok f) = FunctionBuilt f.columns f.count f.lower f.upper
+  BuiltOf (Err r) = FunctionLacks (number_of r.refusal) r.returned
 
 module _ (n : ℕ) (t : Kind) (rows : List Row) (v : List ℕ) (l : List ℕ) (h : List ℕ) (v' : List ℕ) (l' : List ℕ) (h' : List ℕ) where
   pub record Cleared (c : ℕ) (s : List ℕ) (p : List ℕ) (q : List ℕ) : Type 0 where
@@ -142,6 +148,41 @@ module _ (n : ℕ) (t : Kind) (rows : List Row) (v : List ℕ) (l : List ℕ) (h
     pub low : l' ≡ cleared c p
     pub high : h' ≡ cleared c q
 
-  unfoldable pub SettledOf : Function → Type 0
-  SettledOf (Done k c a b) = FunctionBuilt n t rows (length v) v' l' h' k c a b × Cleared c v' l' h'
-  SettledOf (Refused r x) = FunctionLacks n t rows (length v) v' l' h' r x × Cleared 0 v l h
+  unfoldable pub SettledOf : Result Function Refused → Type 0
+  SettledOf (Ok f) = FunctionBuilt n t rows (length v) v' l' h' f.columns f.count f.lower f.upper × Cleared f.count v' l' h'
+  SettledOf (Err r) = FunctionLacks n t rows (length v) v' l' h' (number_of r.refusal) r.returned × Cleared 0 v l h
+
+-- The same of a lent table. To begin with it has no records in use.
+abbrev pub EmptyIn : TableMut → Type 0
+EmptyIn t = (t.count ≡ 0) × Sound t.columns 0 t.level.now t.low.now t.high.now
+
+abbrev pub RowsNamedIn : Operations → Kind → List Row → Operations → Option Sets → Type 0
+RowsNamedIn o k rows o' r =
+    let t = o.table.now in
+    let t' = o'.table.now in
+    NamedOf t.columns k rows (length t.level.now) t'.level.now t'.low.now t'.high.now t'.count r
+
+-- L and U are named, or what the text names does not fit.
+pub record RootsNamed (n : ℕ) (k : Kind) (rows : List Row) (room : ℕ) (v' : List ℕ) (l' : List ℕ) (h' : List ℕ) (c : ℕ) (a : ℕ) (b : ℕ) : Type 0 where
+  pub wide : length v' ≡ room
+  pub sound : Sound n c v' l' h'
+  pub on : Names v' l' h' c 0 n (lower_of n k rows) a
+  pub on_or_dc : Names v' l' h' c 0 n (upper_of n k rows) b
+  pub adds : functions n (table_of v' l' h') c ≡ add_all [] (reading_names n k rows)
+
+pub record RootsLack (n : ℕ) (k : Kind) (rows : List Row) (room : ℕ) (v' : List ℕ) (l' : List ℕ) (h' : List ℕ) : Type 0 where
+  pub lacks : room < reading_need n k rows
+  pub wide : length v' ≡ room
+  pub sized : Sized 0 v' l' h'
+
+module _ (t : TableMut) (k : Kind) (rows : List Row) (t' : TableMut) where
+  unfoldable pub RootsNamedIn : Option (ℕ × ℕ) → Type 0
+  RootsNamedIn (Some r) = RootsNamed t.columns k rows (length t.level.now) t'.level.now t'.low.now t'.high.now t'.count r.0 r.1
+  RootsNamedIn None = RootsLack t.columns k rows (length t.level.now) t'.level.now t'.low.now t'.high.now
+
+abbrev pub BuiltIn : TableMut → Kind → List Row → TableMut → Result Function Refused → Type 0
+BuiltIn t k rows t' r = BuiltOf t.columns k rows (length t.level.now) t'.level.now t'.low.now t'.high.now r
+
+abbrev pub SettledIn : TableMut → Kind → List Row → TableMut → Result Function Refused → Type 0
+SettledIn t k rows t' r =
+    SettledOf t.columns k rows t.level.now t.low.now t.high.now t'.level.now t'.low.now t'.high.now r

@@ -5,6 +5,7 @@ pub mod Legal
 pub mod Judged
 pub mod Example
 pub mod Room
+pub mod Writer
 pub mod Writing
 pub mod Candidate
 pub mod Function

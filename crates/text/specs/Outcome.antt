@@ -1,5 +1,5 @@
 -- A text's outcome: its shape, or the line of its first fault in the order in which a reader meets them.
-use Rattle.std.specs.Prelude.{Bool, true, false, cond, not, ◌&&◌, ◌||◌, List, [], ◌∷◌, ℕ, ◌+◌, eqb}
+use Rattle.std.specs.Prelude.{Bool, true, false, cond, not, ◌&&◌, ◌||◌, List, [], ◌∷◌, ℕ, ◌+◌, eqb, Option, Some, None}
 use Rattle.rule.specs.Rows as Rows
 use Rattle.line.specs.Bytes.{lines}
 use Rattle.line.specs.Meaning.{meaning, kind_of, row_of}
@@ -18,30 +18,34 @@ pub data Outcome : Type 0 where
   good : ℕ → Rows.Kind → List Rows.Row → Outcome
   fault : ℕ → Outcome
 
--- Nothing said yet. An absent type means fd.
+-- Nothing said yet.
 unfoldable pub start : State
-start = record { columns = 0; output = false; typed = false; kind = Fd; counted = false; count = 0; rows = 0 }
+start = record { columns = None; output = false; kind = None; count = None; rows = 0 }
 
 -- The state after each kind of line.
 unfoldable pub with_columns : State → ℕ → State
-with_columns s n =
-    record { columns = n; output = s.output; typed = s.typed; kind = s.kind; counted = s.counted; count = s.count; rows = s.rows }
+with_columns s n = record s { columns = Some n }
 
 unfoldable pub with_output : State → State
-with_output s =
-    record { columns = s.columns; output = true; typed = s.typed; kind = s.kind; counted = s.counted; count = s.count; rows = s.rows }
+with_output s = record s { output = true }
 
 unfoldable pub with_kind : State → Kind → State
-with_kind s t =
-    record { columns = s.columns; output = s.output; typed = true; kind = t; counted = s.counted; count = s.count; rows = s.rows }
+with_kind s t = record s { kind = Some t }
 
 unfoldable pub with_count : State → ℕ → State
-with_count s n =
-    record { columns = s.columns; output = s.output; typed = s.typed; kind = s.kind; counted = true; count = n; rows = s.rows }
+with_count s n = record s { count = Some n }
 
 unfoldable pub with_row : State → State
-with_row s =
-    record { columns = s.columns; output = s.output; typed = s.typed; kind = s.kind; counted = s.counted; count = s.count; rows = s.rows + 1 }
+with_row s = record s { rows = s.rows + 1 }
+
+-- Whether something was said, and whether the columns are a number.
+unfoldable pub said : {A : Type 0} → Option A → Bool
+said (Some x) = true
+said None = false
+
+unfoldable pub columns_are : Option ℕ → ℕ → Bool
+columns_are (Some k) n = eqb n k
+columns_are None n = false
 
 -- What is asked of a text: 0 for a function text, else the columns that a candidate must have. A candidate's type is f or
 -- fd, and its output signs are 1.
@@ -70,21 +74,34 @@ legal false s = Fault
 
 unfoldable pub step : ℕ → State → Line → Step
 step asked s Empty = On s
-step asked s (Columns n) = legal (first s (not (eqb s.columns 0)) && allows_columns asked n) (with_columns s n)
+step asked s (Columns n) = legal (first s (said s.columns) && allows_columns asked n) (with_columns s n)
 step asked s Output = legal (first s s.output) (with_output s)
-step asked s (Typed t) = legal (first s s.typed && allows_kind asked t) (with_kind s t)
-step asked s (Count n) = legal (first s s.counted) (with_count s n)
+step asked s (Typed t) = legal (first s (said s.kind) && allows_kind asked t) (with_kind s t)
+step asked s (Count n) = legal (first s (said s.count)) (with_count s n)
 step asked s (Row n x o) =
-    legal (not (eqb s.columns 0) && s.output && eqb n s.columns && allows_out asked o) (with_row s)
+    legal (s.output && columns_are s.columns n && allows_out asked o) (with_row s)
 step asked s End = Ended
 step asked s Bad = Fault
 
 -- At the end `.i` and `.o` must have been there, and `.p`, if given, must equal the number of rows.
+unfoldable pub count_right : Option ℕ → ℕ → Bool
+count_right (Some k) rows = eqb k rows
+count_right None rows = true
+
 unfoldable pub complete : State → Bool
-complete s = not (eqb s.columns 0) && s.output && (not s.counted || eqb s.count s.rows)
+complete s = said s.columns && s.output && count_right s.count s.rows
+
+-- An absent type means fd.
+unfoldable pub kind_or_fd : Option Kind → Kind
+kind_or_fd (Some t) = t
+kind_or_fd None = Fd
+
+unfoldable pub end_with : Option ℕ → State → ℕ → Outcome
+end_with (Some n) s k = cond (complete s) (good n (kind_of (kind_or_fd s.kind)) []) (fault k)
+end_with None s k = fault k
 
 unfoldable pub finish : State → ℕ → Outcome
-finish s k = cond (complete s) (good s.columns (kind_of s.kind) []) (fault k)
+finish s k = end_with s.columns s k
 
 -- A row goes before the rows after it; other lines have none.
 unfoldable pub put_row : Rows.Row → Outcome → Outcome

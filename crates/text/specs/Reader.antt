@@ -1,16 +1,14 @@
--- Taking the next line of a text: what it means, and where the line after it begins.
-use Rattle.std.specs.Prelude.{cond, List, ℕ, ◌+◌, ltb, length, drop}
+-- Taking the next line of a text: what it means, and what is left after it.
+use Rattle.std.specs.Prelude.{List, [], ◌∷◌, ℕ, ◌+◌, length, drop, Option, Some, None}
 use Rattle.line.specs.Bytes.{is_newline, until}
 use Rattle.line.specs.Meaning.{meaning}
-use Rattle.text.specs.declared.reader.Taken.{Taken}
+use Rattle.line.specs.declared.meaning.Line.{Line}
 
--- The line that begins at a place, without its byte 10; past the end it is empty.
-unfoldable pub line_at : List ℕ → ℕ → List ℕ
-line_at text at = until is_newline (drop at text)
+-- The meaning of the first line, without its byte 10; an empty text has none.
+unfoldable pub next_line : List ℕ → Option Line
+next_line [] = None
+next_line (b ∷ t) = Some (meaning (until is_newline (b ∷ t)))
 
--- The place after that line and its byte 10, or the end.
-unfoldable pub place_after : List ℕ → ℕ → ℕ
-place_after text at = cond (ltb (at + length (line_at text at)) (length text)) (at + length (line_at text at) + 1) (length text)
-
-unfoldable pub taken_at : List ℕ → ℕ → Taken
-taken_at text at = record { line = meaning (line_at text at); next = place_after text at }
+-- What follows that line and its byte 10.
+unfoldable pub rest_after : List ℕ → List ℕ
+rest_after text = drop (length (until is_newline text) + 1) text

@@ -1,13 +1,12 @@
 -- The written text of a list, and the entry that writes it: what it refuses, what it answers, and what it leaves behind.
-use Rattle.std.specs.Prelude.{◌≡◌, cond, ◌&&◌, List, [], ◌∷◌, ◌++◌, map, ℕ, zero, suc, ◌≤◌, eqb, leb, length}
+use Rattle.std.specs.Prelude.{◌≡◌, cond, ◌&&◌, List, [], ◌∷◌, ◌++◌, map, ℕ, zero, suc, ◌≤◌, eqb, leb, length, Result, Ok, Err}
 use Rattle.rule.specs.Cube.{Sign, sign0, sign1, dash, Cube}
 use Rattle.rule.specs.Number.{signs, first_malformed}
-use Rattle.rule.specs.Refusal.{Condition, first_broken, columns_over, list_over, cube_malformed, text_lacks}
+use Rattle.rule.specs.Refusal.{Condition, first_broken, columns_over, list_over, cube_malformed, text_lacks, number_of, refusal_of}
+use Rattle.rule.specs.declared.refusal.Refused.{Refused}
 use Rattle.line.specs.Bytes.{bytes}
 use Rattle.line.specs.Decimal.{decimal}
 use Rattle.text.specs.Room.{padded}
-use Rattle.text.specs.declared.writing.Written.{Written}
-use Rattle.text.specs.declared.writing.Written.TheVariants.{Done, Refused}
 
 -- The byte of a sign.
 unfoldable pub sign_byte : Sign → ℕ
@@ -50,11 +49,11 @@ unfoldable pub write_returns : ℕ → List ℕ → ℕ → ℕ
 write_returns n xs r = cond (eqb r cube_malformed) (first_malformed n xs) (cond (eqb r text_lacks) (length (list_text n xs)) 0)
 
 -- The answer: the first broken condition with what it returns, else the bytes written.
-unfoldable pub answer_by : ℕ → ℕ → List ℕ → Written
-answer_by zero n xs = Done (length (list_text n xs))
-answer_by (suc r) n xs = Refused (suc r) (write_returns n xs (suc r))
+unfoldable pub answer_by : ℕ → ℕ → List ℕ → Result ℕ Refused
+answer_by zero n xs = Ok (length (list_text n xs))
+answer_by (suc r) n xs = Err (record { refusal = refusal_of (suc r); returned = write_returns n xs (suc r) })
 
-unfoldable pub write_answer : ℕ → List ℕ → ℕ → Written
+unfoldable pub write_answer : ℕ → List ℕ → ℕ → Result ℕ Refused
 write_answer n xs room = answer_by (first_broken (write_conditions n xs room)) n xs
 
 -- The numbers of an answer, as document 01 has them: the refusal or 0, what it returns, and the bytes written.
@@ -63,9 +62,9 @@ pub record Numbers : Type 0 where
   pub returned : ℕ
   pub written : ℕ
 
-unfoldable pub numbers_of : Written → Numbers
-numbers_of (Done k) = record { refusal = 0; returned = 0; written = k }
-numbers_of (Refused r v) = record { refusal = r; returned = v; written = 0 }
+unfoldable pub numbers_of : Result ℕ Refused → Numbers
+numbers_of (Ok k) = record { refusal = 0; returned = 0; written = k }
+numbers_of (Err r) = record { refusal = number_of r.refusal; returned = r.returned; written = 0 }
 
 -- The numbers for a refusal or 0.
 unfoldable pub numbers_for : ℕ → ℕ → List ℕ → Numbers
@@ -81,7 +80,7 @@ unfoldable pub room_written : ℕ → List ℕ → List ℕ → List ℕ
 room_written n xs room = room_by (first_broken (write_conditions n xs (length room))) n xs room
 
 -- What the writing entry promises.
-pub record Wrote (n : ℕ) (xs : List ℕ) (room : List ℕ) (room' : List ℕ) (r : Written) : Type 0 where
+pub record Wrote (n : ℕ) (xs : List ℕ) (room : List ℕ) (room' : List ℕ) (r : Result ℕ Refused) : Type 0 where
   pub answer : r ≡ write_answer n xs (length room)
   pub numbers : numbers_of r ≡ numbers_for (first_broken (write_conditions n xs (length room))) n xs
   pub left : room' ≡ room_written n xs room

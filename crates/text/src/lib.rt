@@ -6,4 +6,5 @@ pub mod ending;
 pub mod function;
 pub mod judge;
 pub mod reader;
+pub mod writer;
 pub mod writing;

@@ -1,65 +1,29 @@
-// A reader carries the lent text together with the place of the next unread line; lines are taken through it.
+// A reader of a lent text: its lines are taken one after the other.
 ghost use Rattle.std.specs.Prelude.{◌≡◌};
-ghost use Rattle.text.specs.Reader.{taken_at};
+ghost use Rattle.text.specs.Reader.{next_line, rest_after};
 
 use line::meaning::Line;
 use line::{meaning, scan};
 
+// What of a text is not read yet.
 #[derive(Clone, Copy)]
 pub struct Reader<'a> {
-    pub text: &'a [u8],
-    pub at: usize,
+    pub rest: &'a [u8],
 }
 
-// The meaning of a line, and the place of the line after it.
-#[derive(Clone, Copy)]
-pub struct Taken {
-    pub line: Line,
-    pub next: usize,
-}
-
-// The work: the line that begins at a place of a text.
-fn line_from(text: &[u8], at: usize) -> Taken
-    ensures { result ≡ taken_at text.now at }
-{
-    if text.len() <= at {
-        return Taken {
-            line: Line::Empty,
-            next: text.len(),
-        };
+impl Reader<'_> {
+    // The meaning of the next line, or none at the end of the text.
+    pub fn next_line(&mut self) -> Option<Line>
+        ensures line { result ≡ next_line self.old.rest.now }
+        ensures rest { self.new.rest.now ≡ rest_after self.old.rest.now }
+    {
+        if self.rest.is_empty() {
+            return None;
+        }
+        let line = scan::line_at(self.rest, 0);
+        let told = meaning::line_meaning(line);
+        let past = (line.len() + 1).min(self.rest.len());
+        self.rest = &self.rest[past..];
+        Some(told)
     }
-    let rest = scan::line_at(text, at);
-    let told = meaning::line_meaning(rest);
-    let left = text.len() - at;
-    if rest.len() < left {
-        return Taken {
-            line: told,
-            next: at + rest.len() + 1,
-        };
-    }
-    Taken {
-        line: told,
-        next: text.len(),
-    }
-}
-
-// A reader of a text whose next unread line begins at a place.
-pub fn reader_at<'a>(text: &'a [u8], at: usize) -> Reader<'a>
-    ensures { (result.text ≡ text.entry) × (result.at ≡ at) }
-{
-    Reader { text, at }
-}
-
-// The next unread line of a reader.
-pub fn next<'a>(r: Reader<'a>) -> Taken
-    ensures { result ≡ taken_at r.entry.text.now r.entry.at }
-{
-    line_from(r.text, r.at)
-}
-
-// The line at a place of a text, taken through a reader.
-pub fn take(text: &[u8], at: usize) -> Taken
-    ensures { result ≡ taken_at text.now at }
-{
-    next(reader_at(text, at))
 }

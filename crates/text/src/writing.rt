@@ -4,110 +4,61 @@ ghost use Rattle.rule.specs.Point.{odd};
 ghost use Rattle.rule.specs.Number.{signs, signs_from, sign_of};
 ghost use Rattle.line.specs.Decimal.{decimal};
 ghost use Rattle.text.specs.Writing.{sign_byte, row_text, rows_text, list_text, write_answer, Wrote, Writable};
-ghost use Rattle.text.specs.Room.{cleared, padded, Put};
+ghost use Rattle.text.specs.Writer.{SameRoom, PutIn};
+ghost use Rattle.text.specs.Room.{padded};
 
-use rule::{cube, refusal};
-
-// The bytes written, or a refusal's number with what it returns.
-#[derive(Clone, Copy)]
-pub enum Written {
-    Done(usize),
-    Refused(u16, usize),
-}
+use crate::writer::Writer;
+use rule::cube;
+use rule::refusal::{Refusal, Refused};
 
 // The byte of the first column's sign.
+#[tactic(auto, unfolding(crate::specs::Writing::sign_byte, rule::specs::Number::sign_of, rule::specs::Point::odd))]
 fn sign_byte(ones: u32, zeros: u32) -> u8
     ensures { result ≡ sign_byte (sign_of (odd ones) (odd zeros)) }
 {
     if ones % 2 == 1 {
-        return b'1';
+        b'1'
+    } else if zeros % 2 == 1 {
+        b'0'
+    } else {
+        b'-'
     }
-    if zeros % 2 == 1 {
-        return b'0';
-    }
-    b'-'
 }
 
 // The signs of a cube, column by column.
-fn put_signs(room: &mut [u8], at: usize, columns: u16, ones: u32, zeros: u32) -> usize
-    requires { at + columns ≤ length room.old }
-    ensures { Put room.old at (map sign_byte (signs_from columns ones zeros)) room.new result }
+// Kept: the halves as two numbers, since the loop takes both apart digit by digit.
+fn put_signs(writer: &mut Writer<'_>, columns: u16, ones: u32, zeros: u32)
+    requires { writer.old.at + columns ≤ length writer.old.room.now }
+    ensures same { SameRoom writer.old writer.new }
+    ensures put { PutIn writer.old (map sign_byte (signs_from columns ones zeros)) writer.new }
 {
-    let mut place = at;
-    let mut left = columns;
     let mut o = ones;
     let mut z = zeros;
-    while 0 < left {
-        room[place] = sign_byte(o, z);
-        place += 1;
-        left -= 1;
-        o = o / 2;
-        z = z / 2;
+    for _ in 0..columns {
+        writer.byte(sign_byte(o, z));
+        o /= 2;
+        z /= 2;
     }
-    place
-}
-
-// Some bytes as they are.
-pub fn put_bytes(room: &mut [u8], at: usize, word: &[u8]) -> usize
-    requires { at + length word.now ≤ length room.old }
-    ensures { Put room.old at word.now room.new result }
-{
-    let mut place = at;
-    let mut i = 0;
-    while i < word.len() {
-        room[place] = word[i];
-        place += 1;
-        i += 1;
-    }
-    place
-}
-
-// A number in decimal, without leading zeros.
-fn put_number(room: &mut [u8], at: usize, n: u32) -> usize
-    requires { (n < 100000) × (at + length (decimal n) ≤ length room.old) }
-    ensures { Put room.old at (decimal n) room.new result }
-{
-    if n < 10 {
-        room[at] = 48 + n as u8;
-        return at + 1;
-    }
-    let place = put_number(room, at, n / 10);
-    room[place] = 48 + (n % 10) as u8;
-    place + 1
 }
 
 // A row: the cube's signs, a space and 1.
-fn put_row(room: &mut [u8], at: usize, columns: u16, cube: u32) -> usize
-    requires { at + length (row_text (signs columns cube)) ≤ length room.old }
-    ensures { Put room.old at (row_text (signs columns cube)) room.new result }
+fn put_row(writer: &mut Writer<'_>, columns: u16, cube: u32)
+    requires { writer.old.at + length (row_text (signs columns cube)) ≤ length writer.old.room.now }
+    ensures same { SameRoom writer.old writer.new }
+    ensures put { PutIn writer.old (row_text (signs columns cube)) writer.new }
 {
-    let place = put_signs(room, at, columns, cube % 65536, cube / 65536);
-    put_bytes(room, place, b" 1\n")
+    put_signs(writer, columns, cube % 65536, cube / 65536);
+    writer.bytes(b" 1\n");
 }
 
 // The rows of a list.
-fn put_rows(room: &mut [u8], at: usize, columns: u16, list: &[u32]) -> usize
-    requires { at + length (rows_text columns list.now) ≤ length room.old }
-    ensures { Put room.old at (rows_text columns list.now) room.new result }
+fn put_rows(writer: &mut Writer<'_>, columns: u16, list: &[u32])
+    requires { writer.old.at + length (rows_text columns list.now) ≤ length writer.old.room.now }
+    ensures same { SameRoom writer.old writer.new }
+    ensures put { PutIn writer.old (rows_text columns list.now) writer.new }
 {
-    let mut place = at;
-    let mut i = 0;
-    while i < list.len() {
-        place = put_row(room, place, columns, list[i]);
-        i += 1;
-    }
-    place
-}
-
-// The bytes from a place on become zero.
-pub fn clear_from(room: &mut [u8], from: usize)
-    requires { from ≤ length room.old }
-    ensures { room.new ≡ cleared from room.old }
-{
-    let mut i = from;
-    while i < room.len() {
-        room[i] = 0;
-        i += 1;
+    for cube in list {
+        put_row(writer, columns, *cube);
     }
 }
 
@@ -116,19 +67,13 @@ fn digit_count(n: usize) -> usize
     requires { n < 100000 }
     ensures { result ≡ length (decimal n) }
 {
-    if n < 10 {
-        return 1;
+    match n {
+        0..=9 => 1,
+        10..=99 => 2,
+        100..=999 => 3,
+        1000..=9999 => 4,
+        _ => 5,
     }
-    if n < 100 {
-        return 2;
-    }
-    if n < 1000 {
-        return 3;
-    }
-    if n < 10000 {
-        return 4;
-    }
-    5
 }
 
 // The bytes that a list's text needs.
@@ -141,27 +86,23 @@ fn bytes_needed(columns: u16, list: &[u32]) -> usize
 }
 
 // The answer: the first refusal that applies, else the bytes to be written.
-fn answer(columns: u16, list: &[u32], room: usize) -> Written
+fn answer(columns: u16, list: &[u32], room: usize) -> Result<usize, Refused>
     ensures { result ≡ write_answer columns list.now room }
 {
-    if columns < 1 {
-        return Written::Refused(refusal::COLUMNS_OVER, 0);
-    }
-    if 16 < columns {
-        return Written::Refused(refusal::COLUMNS_OVER, 0);
+    if columns < 1 || 16 < columns {
+        return Err(Refusal::ColumnsOver.returning(0));
     }
     if 16384 < list.len() {
-        return Written::Refused(refusal::LIST_OVER, 0);
+        return Err(Refusal::ListOver.returning(0));
     }
-    let malformed = cube::first_malformed(columns, list);
-    if malformed != 0 {
-        return Written::Refused(refusal::CUBE_MALFORMED, malformed);
+    if let Some(place) = cube::first_malformed(columns, list) {
+        return Err(Refusal::CubeMalformed.returning(place));
     }
     let needed = bytes_needed(columns, list);
     if room < needed {
-        return Written::Refused(refusal::TEXT_LACKS, needed);
+        return Err(Refusal::TextLacks.returning(needed));
     }
-    Written::Done(needed)
+    Ok(needed)
 }
 
 // The text of a list, and zeros past it.
@@ -169,27 +110,23 @@ fn put_text(columns: u16, list: &[u32], room: &mut [u8])
     requires { Writable columns list.now (length room.old) }
     ensures { room.new ≡ padded (list_text columns list.now) room.old }
 {
-    let columns_at = put_bytes(room, 0, b".i ");
-    let outputs_at = put_number(room, columns_at, columns as u32);
-    let count_at = put_bytes(room, outputs_at, b"\n.o 1\n.p ");
-    let break_at = put_number(room, count_at, list.len() as u32);
-    let rows_at = put_bytes(room, break_at, b"\n");
-    let end_at = put_rows(room, rows_at, columns, list);
-    let past = put_bytes(room, end_at, b".e\n");
-    clear_from(room, past);
+    let mut writer = Writer { room, at: 0 };
+    writer.bytes(b".i ");
+    writer.number(columns as u32);
+    writer.bytes(b"\n.o 1\n.p ");
+    writer.number(list.len() as u32);
+    writer.bytes(b"\n");
+    put_rows(&mut writer, columns, list);
+    writer.bytes(b".e\n");
+    writer.clear_rest();
 }
 
 // Writes a list of cubes as text. Refused: 1 for 0 columns or over 16, 6 for over 16,384 cubes, 9 with the position of the
 // first malformed cube, 13 with the bytes needed; then the room is as it was. Done: the text, and zeros past it.
-pub fn write_list(columns: u16, list: &[u32], room: &mut [u8]) -> Written
+pub fn write_list(columns: u16, list: &[u32], room: &mut [u8]) -> Result<usize, Refused>
     ensures { Wrote columns list.now room.old room.new result }
 {
-    let told = answer(columns, list, room.len());
-    match told {
-        Written::Refused(number, value) => Written::Refused(number, value),
-        Written::Done(needed) => {
-            put_text(columns, list, room);
-            Written::Done(needed)
-        }
-    }
+    let written = answer(columns, list, room.len())?;
+    put_text(columns, list, room);
+    Ok(written)
 }

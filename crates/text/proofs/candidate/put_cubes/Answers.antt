@@ -1,60 +1,38 @@
 -- `text::candidate::put_cubes` meets its contract. The loop's invariant: putting the rows of what is left of the text gives the room of
 -- the entry with all of them. The measure is what is left of the text.
-use mathlib.Core.Path.{refl, sym, ap, ◌∙◌}
-use native.Mathlib.Omega.{arith}
-use lib.ListN.{length, drop, length-append}
-use lib.Seq.{sets}
-use Rattle.line.specs.Bytes.{lines}
-use Rattle.text.specs.Candidate.{row_number, row_numbers}
-use Rattle.text.proofs.Room.{put_front, put-kept}
-use Rattle.text.proofs.Places.{took}
-use Rattle.text.proofs.Taken.{rows-over, rows_end, rows_on}
+use Rattle.std.proofs.Common.{ap, arith, length}
+use Rattle.text.proofs.NextLine.{took, no_lines}
+use Rattle.text.proofs.Ends.{is_end-End}
+use Rattle.text.proofs.Room.{none_left}
+use Rattle.text.proofs.Taken.{rows-over, rows_end, row_more, row_same, put_row-left}
 use Rattle.text.proofs.candidate.put_cubes.Goals as goal
 
-pub loop-at-init : goal.loop-at-init
-loop-at-init c = (refl, omega arith, omega arith, refl)
+pub bounds-room-place : goal.bounds-room-place
+bounds-room-place c =
+    let t = took c.in-Some.is c.next_line.ensures.line c.next_line.ensures.rest in
+    omega (arith, ap length (row_more _ _ _ t _ _ _ c.in-Row.is))
 
-pub shape_of-room-then-ends : goal.shape_of-room-then-ends
-shape_of-room-then-ends c = c.loop-at.invariant.0
+pub loop-line-smaller-in-Row : goal.loop-line-smaller-in-Row
+loop-line-smaller-in-Row c = (took c.in-Some.is c.next_line.ensures.line c.next_line.ensures.rest).shorter
 
-pub returns-then-ends : goal.returns-then-ends
-returns-then-ends c =
-    let t = took c.args.text.now c.loop-at.at c.loop-at-test.true c.take-taken.result c.take-taken.ensures in
-    let e = rows_end c.args.text.now c.loop-at.at c.take-taken.result t (sym c.ends.ensures ∙ c.if-ends.true) in
-    record {
-      stored = sym (ap (sets c.loop-at.room c.loop-at.place) e) ∙ c.loop-at.invariant.3;
-      next = omega (arith, ap length e);
-    }
+pub loop-line-preserved-in-Row : goal.loop-line-preserved-in-Row
+loop-line-preserved-in-Row c =
+    let t = took c.in-Some.is c.next_line.ensures.line c.next_line.ensures.rest in
+    put_row-left _ _ _ t c.loop-line.invariant _ _ _ c.in-Row.is
 
-pub put_cube-place-requires : goal.put_cube-place-requires
-put_cube-place-requires c =
-    let t = took c.args.text.now c.loop-at.at c.loop-at-test.true c.take-taken.result c.take-taken.ensures in
-    omega (arith, c.requires.1, ap length (rows_on c.args.text.now c.loop-at.at c.take-taken.result t (sym c.ends.ensures ∙ c.if-ends.false)), length-append (row_number c.take-taken.result.line) (row_numbers (lines (drop c.take-taken.result.next c.args.text.now))))
+pub loop-line-smaller : goal.loop-line-smaller
+loop-line-smaller c = (took c.in-Some.is c.next_line.ensures.line c.next_line.ensures.rest).shorter
 
-pub loop-at-smaller : goal.loop-at-smaller
-loop-at-smaller c =
-    let t = took c.args.text.now c.loop-at.at c.loop-at-test.true c.take-taken.result c.take-taken.ensures in
-    omega (arith, t.further, t.within)
+pub loop-line-preserved : goal.loop-line-preserved
+loop-line-preserved c =
+    let t = took c.in-Some.is c.next_line.ensures.line c.next_line.ensures.rest in
+    rw (row_same _ _ _ t c.in_default-line.not-End c.in_default-line.not-Row) at c.loop-line.invariant
 
-pub loop-at-preserved : goal.loop-at-preserved
-loop-at-preserved c =
-    let t = took c.args.text.now c.loop-at.at c.loop-at-test.true c.take-taken.result c.take-taken.ensures in
-    let p = c.put_cube-place.ensures in
-    let e = rows_on c.args.text.now c.loop-at.at c.take-taken.result t (sym c.ends.ensures ∙ c.if-ends.false) in (
-      put-kept p ∙ c.loop-at.invariant.0,
-      t.within,
-      omega (arith, p.next, ap length e, length-append (row_number c.take-taken.result.line) (row_numbers (lines (drop c.take-taken.result.next c.args.text.now)))),
-      sym (put_front p (row_numbers (lines (drop c.take-taken.result.next c.args.text.now)))) ∙
-          ap (sets c.loop-at.room c.loop-at.place) (sym e) ∙ c.loop-at.invariant.3,
-    )
+pub returns-in-End-clause-put : goal.returns-in-End-clause-put
+returns-in-End-clause-put c =
+    let t = took c.in-Some.is c.next_line.ensures.line c.next_line.ensures.rest in
+    none_left (rw (rows_end _ _ _ t (is_end-End _ c.in-End.is)) at c.loop-line.invariant)
 
-pub shape_of-room : goal.shape_of-room
-shape_of-room c = c.loop-at.invariant.0
-
-pub returns : goal.returns
-returns c =
-    let e = rows-over c.args.text.now c.loop-at.at c.loop-at-test.false in
-    record {
-      stored = sym (ap (sets c.loop-at.room c.loop-at.place) e) ∙ c.loop-at.invariant.3;
-      next = omega (arith, ap length e);
-    }
+pub returns-in_default-clause-put : goal.returns-in_default-clause-put
+returns-in_default-clause-put c =
+    none_left (rw (rows-over _ (no_lines _ c.in_default.is c.next_line.ensures.line)) at c.loop-line.invariant)

@@ -1,27 +1,48 @@
 -- `text::function::read_function` meets its contract: the tests come in the order of the refusals, and each way out is a law of
 -- `FunctionEntry`.
-use mathlib.Core.Path.{sym, ◌∙◌}
+use Rattle.std.proofs.Common.{sym, refl, ◌∙◌, rules}
+use Rattle.rule.specs.Refusal.{refusal_of}
+use Rattle.text.proofs.Taken.{refused_is}
 use Rattle.text.proofs.Reading.{judged-good}
-use Rattle.text.proofs.FunctionEntry.{text-over, low_differs, high_differs, table-over, fault-told, table_empty, settled_reads}
+use Rattle.text.proofs.FunctionEntry.{text-over, low_differs, high_differs, table-over, fault-told, table_empty, settled_reads, zeros_left}
+use Rattle.text.proofs.function.read_function.Goals.{then-low-size-via-then-low-size, then-low-size-via-else-low-size+then-high-size, then-low-size-via-else-low-size+else-high-size+then-size-gt4096}
 use Rattle.text.proofs.function.read_function.Goals as goal
 
 pub returns-then-text-gt32768 : goal.returns-then-text-gt32768
-returns-then-text-gt32768 c = text-over _ _ _ _ c.if-text-gt32768.true
+unfolding refusal_of
+returns-then-text-gt32768 c =
+    rw (refused_is c.returning.result c.returning.ensures.refusal c.returning.ensures.returned) (text-over _ _ _ _ c.if-text-gt32768.true)
 
-pub returns-then-low-level : goal.returns-then-low-level
-returns-then-low-level c = low_differs _ _ _ _ c.if-text-gt32768.false c.if-low-level.true
+pub returns-then-low-size : goal.returns-then-low-size
+unfolding refusal_of
+returns-then-low-size c =
+    let r = c.returning-then-low-size in
+    rw (refused_is r.result r.ensures.refusal r.ensures.returned)
+    (elim c.then-low-size.branch [
+      | then-low-size-via-then-low-size w ↦ low_differs _ _ _ _ c.if-text-gt32768.false w.if-low-size.true
+      | then-low-size-via-else-low-size+then-high-size w ↦
+          high_differs _ _ _ _ c.if-text-gt32768.false w.if-low-size.false w.if-high-size.true
+      | then-low-size-via-else-low-size+else-high-size+then-size-gt4096 w ↦
+          table-over _ _ _ _ c.if-text-gt32768.false w.if-low-size.false w.if-high-size.false w.if-size-gt4096.true
+    ])
 
-pub returns-then-high-level : goal.returns-then-high-level
-returns-then-high-level c = high_differs _ _ _ _ c.if-text-gt32768.false c.if-low-level.false c.if-high-level.true
+pub returns-in-Err : goal.returns-in-Err
+unfolding refusal_of
+returns-in-Err c =
+    rw (refused_is c.returning-in-Err.result c.returning-in-Err.ensures.refusal c.returning-in-Err.ensures.returned)
+    (fault-told _ _ _ _ c.if-text-gt32768.false c.if-low-size.false c.if-high-size.false c.if-size-gt4096.false _
+    (sym c.in-Err.is ∙ c.judge.ensures) _ _ _ (zeros_left _ _ (c.fill.ensures.after (λ y e. e)))
+    (zeros_left _ _ (c.fill-in-Err.ensures.after (λ y e. e))) (zeros_left _ _ (c.fill-in-Err-2.ensures.after (λ y e. e))))
 
-pub returns-then-level-gt4096 : goal.returns-then-level-gt4096
-returns-then-level-gt4096 c = table-over _ _ _ _ c.if-text-gt32768.false c.if-low-level.false c.if-high-level.false c.if-level-gt4096.true
+pub settle_function-requires-clause-empty : goal.settle_function-requires-clause-empty
+settle_function-requires-clause-empty c = (
+  refl,
+  table_empty _ _ _ _ c.if-text-gt32768.false c.if-low-size.false c.if-high-size.false c.if-size-gt4096.false _ _
+      (judged-good _ c.in-Ok.shape (sym c.in-Ok.is ∙ c.judge.ensures)),
+)
 
-pub settle_function-requires : goal.settle_function-requires
-settle_function-requires c = (c.if-text-gt32768.false, table_empty _ _ _ _ c.if-text-gt32768.false c.if-low-level.false c.if-high-level.false c.if-level-gt4096.false _ _ (judged-good _ _ _ _ (sym c.in-Good.is ∙ c.judge.ensures)))
-
-pub returns-in-Faulty : goal.returns-in-Faulty
-returns-in-Faulty c = fault-told _ _ _ _ c.if-text-gt32768.false c.if-low-level.false c.if-high-level.false c.if-level-gt4096.false _ (sym c.in-Faulty.is ∙ c.judge.ensures) _ _ _ c.give_back.ensures.0 c.give_back.ensures.1 c.give_back.ensures.2
-
-pub returns-in-Good : goal.returns-in-Good
-returns-in-Good c = settled_reads _ _ _ _ c.if-text-gt32768.false c.if-low-level.false c.if-high-level.false c.if-level-gt4096.false _ _ (judged-good _ _ _ _ (sym c.in-Good.is ∙ c.judge.ensures)) _ _ _ c.settle_function.result c.settle_function.ensures
+pub returns : goal.returns
+returns c =
+    let q = settled_reads _ _ _ _ c.if-text-gt32768.false c.if-low-size.false c.if-high-size.false c.if-size-gt4096.false _ _
+    (judged-good _ c.in-Ok.shape (sym c.in-Ok.is ∙ c.judge.ensures)) _ _ _ _ c.settle_function.ensures.settled in
+    search rules

@@ -1,12 +1,27 @@
 -- `text::function::settle_function` meets its contract: what was built is settled by `Settling`.
-use Rattle.text.proofs.Settling.{done-fits, done_settled, refused_settled}
+use Rattle.std.proofs.Common.{arith}
+use Rattle.text.specs.Function.{BuiltOf}
+use Rattle.text.proofs.Settling.{done_settled, refused_settled}
+use Rattle.text.proofs.function.settle_function.Goals.{in-Ok, in-Err}
 use Rattle.text.proofs.function.settle_function.Goals as goal
 
 pub give_back-requires : goal.give_back-requires
-give_back-requires c = done-fits _ _ _ _ c.build_function-told.new.level c.build_function-told.new.low c.build_function-told.new.high c.build_function-told.result c.build_function-told.ensures c.in-Done.is
+unfolding BuiltOf
+give_back-requires c = elim c.match-built.branch [
+  | in-Ok w ↦
+      let s = (rw w.in-Ok.is at c.build_function-built.ensures.built).sound.sized in
+      (omega (arith, w.kept-is, s.count), omega (arith, w.kept-is, s.count, s.low), omega (arith, w.kept-is, s.count, s.high))
+  | in-Err w ↦ (omega (arith, w.kept-is), omega (arith, w.kept-is), omega (arith, w.kept-is))
+]
 
-pub returns-in-Done : goal.returns-in-Done
-returns-in-Done c = done_settled _ _ _ _ _ _ _ _ _ c.build_function-told.result c.build_function-told.ensures _ _ _ c.in-Done.is c.give_back.ensures.0 c.give_back.ensures.1 c.give_back.ensures.2
-
-pub returns-in-Refused : goal.returns-in-Refused
-returns-in-Refused c = refused_settled _ _ _ _ _ _ _ _ _ c.build_function-told.result c.build_function-told.ensures _ _ _ c.requires.1 c.in-Refused.is c.give_back-in-Refused.ensures.0 c.give_back-in-Refused.ensures.1 c.give_back-in-Refused.ensures.2
+pub returns-clause-settled : goal.returns-clause-settled
+unfolding BuiltOf
+returns-clause-settled c = elim c.match-built.branch [
+  | in-Ok w ↦
+      let g = rw w.kept-is at c.give_back.ensures.given in
+      rw w.built-is (done_settled _ _ _ _ _ _ _ _ _ _ _ _ w.in-Ok.function (rw w.in-Ok.is at c.build_function-built.ensures.built) g.level g.low g.high)
+  | in-Err w ↦
+      let g = rw w.kept-is at c.give_back.ensures.given in
+      rw (w.built-is, w.in-Err.is)
+      (refused_settled _ _ _ _ _ _ _ _ _ _ _ _ c.requires.empty.1 w.in-Err.field-0 (rw w.in-Err.is at c.build_function-built.ensures.built) g.level g.low g.high)
+]

@@ -11,9 +11,6 @@ overflow_add-result c = omega (arith, length-decimal c.args.columns)
 pub overflow_add-result-2 : goal.overflow_add-result-2
 overflow_add-result-2 c = omega (arith, length-decimal c.args.columns, length-decimal (length c.args.list.now))
 
-pub overflow_mul-result : goal.overflow_mul-result
-overflow_mul-result c = omega (arith, few_bytes c.args.columns c.args.list.now (omega arith) (omega arith))
-
 pub overflow_add-result-4 : goal.overflow_add-result-4
 overflow_add-result-4 c =
     omega (

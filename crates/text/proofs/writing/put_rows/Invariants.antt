@@ -1,16 +1,11 @@
--- `text::writing::put_rows` meets its contract. The loop's invariant: storing the rows of what is left of the list gives the room of
--- the entry with all of them. The measure is what is left of the length.
-use mathlib.Core.Path.{◌≡◌}
-use Prim.Native.Nat.{◌≤◌, ◌+◌, ◌-◌}
-use lib.ListN.{length, drop}
-use lib.Seq.{sets}
+-- `text::writing::put_rows` meets its contract. The loop's invariant: the rows of the cubes that it has not come to are left.
+use Rattle.std.proofs.Common.{drop}
 use Rattle.text.specs.Writing.{rows_text}
+use Rattle.text.specs.Writer.{SameRoom}
+use Rattle.text.proofs.Room.{Left}
 use Rattle.text.proofs.writing.put_rows.Given as goal
 
-abbrev pub invariant-loop-i : goal.invariant-loop-i
-invariant-loop-i l = (length l.room ≡ length l.initial.room) × (l.i ≤ length l.list) ×
-    (l.place + length (rows_text l.columns (drop l.i l.list)) ≡ l.at + length (rows_text l.columns l.list)) ×
-    (sets l.room l.place (rows_text l.columns (drop l.i l.list)) ≡ sets l.initial.room l.at (rows_text l.columns l.list))
-
-abbrev pub decreases-loop-i : goal.decreases-loop-i
-decreases-loop-i l = length l.list - l.i
+abbrev pub invariant-loop-cube : goal.invariant-loop-cube
+invariant-loop-cube l = SameRoom l.initial.writer l.writer ×
+    Left l.initial.writer.room.now l.initial.writer.at (rows_text l.columns l.list)
+    l.writer.room.now l.writer.at (rows_text l.columns (drop l.cube-index l.list))

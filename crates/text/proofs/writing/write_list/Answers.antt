@@ -1,17 +1,17 @@
 -- `text::writing::write_list` meets its contract: the answer decides whether the room is written or kept.
-use mathlib.Core.Path.{sym, ◌∙◌}
-use Rattle.text.proofs.Written.{done-writes, refused_keeps, wrote}
+use mathlib.Core.Path.{◌≡◌}
+use Rattle.std.proofs.Common.{rules, Err}
+use Rattle.text.proofs.Written.{done_writable, done_wrote, refused_wrote}
 use Rattle.text.proofs.writing.write_list.Goals as goal
 
+pub returns-in_err-written : goal.returns-in_err-written
+returns-in_err-written c =
+    let w = refused_wrote c.args.columns c.args.list.now c.args.room.now c.in_err-written.ensures in
+    let e : c.from_residual.result ≡ Err c.in_err-written.field-0.0 = search rules in
+    rw e w
+
 pub put_text-requires : goal.put_text-requires
-put_text-requires c =
-    (done-writes c.args.columns c.args.list.now c.args.room.now c.answer-told.result c.in-Done.needed c.answer-told.ensures c.in-Done.is).0
+put_text-requires c = done_writable c.args.columns c.args.list.now c.args.room.now c.in_ok-written.ensures
 
-pub returns-in-Refused : goal.returns-in-Refused
-returns-in-Refused c =
-    wrote _ _ _ _ _ (sym c.in-Refused.is ∙ c.answer-told.ensures) (refused_keeps c.args.columns c.args.list.now c.args.room.now c.answer-told.result c.in-Refused.number c.in-Refused.value c.answer-told.ensures c.in-Refused.is)
-
-pub returns-in-Done : goal.returns-in-Done
-returns-in-Done c =
-    wrote _ _ _ _ _ (sym c.in-Done.is ∙ c.answer-told.ensures) (c.put_text.ensures ∙
-    (done-writes c.args.columns c.args.list.now c.args.room.now c.answer-told.result c.in-Done.needed c.answer-told.ensures c.in-Done.is).1)
+pub returns : goal.returns
+returns c = done_wrote c.args.columns c.args.list.now c.args.room.now c.in_ok-written.ensures c.put_text.ensures
