@@ -1,47 +1,54 @@
--- The records of an array as three arrays of numbers, and together again: the copies of a field go from the first on, and at
--- the end every number is copied.
-use mathlib.Core.Path.{◌≡◌, refl, sym, ap, subst⁻¹, ◌∙◌}
-use mathlib.Core.List.{List, [], ◌∷◌, map}
-use Prim.Native.Nat.{ℕ, zero, suc, ◌+◌, ◌≤◌, ◌<◌, zero-le}
+-- The loops that take the records of a row apart and store them again: the numbers of a field are copied from the first on, and
+-- at the end all are.
+use mathlib.Core.Path.{◌≡◌, refl, sym, ap, ap₂, subst⁻¹, ◌∙◌}
+use mathlib.Core.List.{List, [], ◌∷◌, ◌++◌, map}
+use Prim.Native.Nat.{ℕ, ◌+◌, ◌≤◌, ◌<◌}
 use native.Mathlib.Nat.{le_antisymm}
 use native.Mathlib.Omega.{arith}
-use lib.ListN.{length, get_or, set, get_or-map}
+use lib.ListN.{length, get_or, set, take, drop, get_or-map, length-map, length-set}
+use lib.Seq.{take_all, take_at}
+use Rattle.std.proofs.lemmas.List.{map-set, take_more, take_more_set}
 use Rattle.nodes.specs.declared.row.Node.{Node}
-use Rattle.nodes.proofs.Copying.{copied, copied_none, copied_more, copied_all}
 
--- The first i numbers of us are copied to zs.
-pub record SoFar (us zs : List ℕ) (i : ℕ) : Type 0 where
-  pub start : List ℕ
-  pub long : length start ≡ 4096
-  pub place : i ≤ 4096
-  pub are : zs ≡ copied 0 us start i
+-- The first i numbers of zs, which are n in all, are those of us.
+pub record SoFar (n : ℕ) (us zs : List ℕ) (i : ℕ) : Type 0 where
+  pub long : length zs ≡ n
+  pub are : take i zs ≡ take i us
 
-pub none_yet : (us zs : List ℕ) → length zs ≡ 4096 → SoFar us zs 0
-none_yet us zs l = record { start = zs; long = l; place = zero-le; are = sym (copied_none 0 us zs) }
+pub none_yet : (n : ℕ) (us zs : List ℕ) → length zs ≡ n → SoFar n us zs 0
+none_yet n us zs l = record { long = l; are = refl }
 
-pub all_are : (us zs : List ℕ) (i : ℕ) → length us ≡ 4096 → 4096 ≤ i → SoFar us zs i → zs ≡ us
-all_are us zs i l k s = s.are ∙ ap (copied 0 us s.start) (le_antisymm s.place k) ∙ copied_all 0 us s.start 4096 l s.long
-
-one_more : (us zs : List ℕ) (i x : ℕ) → x ≡ get_or us i 0 → i < 4096 → SoFar us zs i → SoFar us (set zs i x) (i + 1)
-one_more us zs i x e k s = record {
-  start = s.start;
-  long = s.long;
-  place = further i k;
-  are = ap (λ (ys : List ℕ). set ys i x) s.are ∙ ap (set (copied 0 us s.start i) i) e ∙ copied_more 0 us s.start i;
-}
-  where
-    further : (j : ℕ) → j < 4096 → j + 1 ≤ 4096
-    further j l = omega arith
-
-map_set : (f : Node → ℕ) (xs : List Node) (i : ℕ) (x : Node) → map f (set xs i x) ≡ set (map f xs) i (f x)
-map_set f [] i x = refl
-map_set f (y ∷ ys) zero x = refl
-map_set f (y ∷ ys) (suc i) x = ap {B = List ℕ} (λ r. f y ∷ r) (map_set f ys i x)
+one_more : (n : ℕ) (us zs : List ℕ) (i x : ℕ) → x ≡ get_or us i 0 → i < length us → i < n → SoFar n us zs i → SoFar n us (set zs i x) (i + 1)
+one_more n us zs i x e l k s =
+    let m : i < length zs = omega (arith, s.long) in
+    record {
+      long = length-set zs i x ∙ s.long;
+      are = take_more_set zs i x m ∙ ap₂ (λ (a : List ℕ) (b : ℕ). a ++ b ∷ []) s.are e ∙ sym (take_more us i 0 l);
+    }
 
 -- A field of one more record is taken, where the default's is 0.
-pub one_out : (f : Node → ℕ) (xs : List Node) (zs : List ℕ) (i : ℕ) (d : Node) → f d ≡ 0 → i < 4096 → SoFar (map f xs) zs i → SoFar (map f xs) (set zs i (f (get_or xs i d))) (i + 1)
-one_out f xs zs i d e k s = one_more (map f xs) zs i (f (get_or xs i d)) (sym (get_or-map f xs i d) ∙ ap (get_or (map f xs) i) e) k s
+pub one_out : (f : Node → ℕ) (n : ℕ) (xs : List Node) (zs : List ℕ) (i : ℕ) (d : Node) → f d ≡ 0 → i < length xs → length xs ≤ n
+    → SoFar n (map f xs) zs i → SoFar n (map f xs) (set zs i (f (get_or xs i d))) (i + 1)
+one_out f n xs zs i d e l k s =
+    one_more n (map f xs) zs i (f (get_or xs i d)) (sym (get_or-map f xs i d) ∙ ap (get_or (map f xs) i) e)
+    (rw length-map l) (omega arith) s
 
 -- A field of one more record is stored.
-pub one_in : (f : Node → ℕ) (us : List ℕ) (xs : List Node) (i : ℕ) (x : Node) → f x ≡ get_or us i 0 → i < 4096 → SoFar us (map f xs) i → SoFar us (map f (set xs i x)) (i + 1)
-one_in f us xs i x e k s = subst⁻¹ (λ (zs : List ℕ). SoFar us zs (i + 1)) (map_set f xs i x) (one_more us (map f xs) i (f x) e k s)
+pub one_in : (f : Node → ℕ) (n : ℕ) (us : List ℕ) (xs : List Node) (i : ℕ) (x : Node) → f x ≡ get_or us i 0 → i < length us → i < n
+    → SoFar n us (map f xs) i → SoFar n us (map f (set xs i x)) (i + 1)
+one_in f n us xs i x e l k s = subst⁻¹ (λ (zs : List ℕ). SoFar n us zs (i + 1)) (map-set f xs i x) (one_more n us (map f xs) i (f x) e l k s)
+
+-- At the end all are taken, or all are stored.
+pub all_out : (f : Node → ℕ) (n : ℕ) (xs : List Node) (zs : List ℕ) (i : ℕ) → length xs ≤ i → i ≤ length xs → SoFar n (map f xs) zs i
+    → take (length xs) zs ≡ map f xs
+all_out f n xs zs i l k s =
+    ap (λ (j : ℕ). take j zs) (le_antisymm l k) ∙ s.are ∙ take_all i (map f xs) (rw length-map l)
+
+pub all_in : (n : ℕ) (us zs : List ℕ) (i : ℕ) → n ≤ i → i ≤ n → SoFar n us zs i → zs ≡ take n us
+all_in n us zs i l k s =
+    sym (take_all i zs (omega (arith, s.long))) ∙ s.are ∙ ap (λ (j : ℕ). take j us) (le_antisymm k l)
+
+-- The first numbers of a list were lent and have come back as vs: where as many are stored, those are vs.
+pub back : (f : Node → ℕ) (xs : List Node) (us vs ws : List ℕ) (m : ℕ) → take (length xs) us ≡ map f xs → length vs ≡ length (take (length xs) us)
+    → m ≡ length xs → ws ≡ take m (vs ++ drop (length xs) us) → vs ≡ ws
+back f xs us vs ws m e l k s = sym (take_at vs (drop (length xs) us) m (l ∙ ap length e ∙ length-map xs f ∙ sym k)) ∙ sym s

@@ -1,8 +1,9 @@
--- A row of records and its three lists: they determine it, and go along with parts of it and with clearing.
+-- A row of records and its three lists: they determine it, and go along with clearing.
 use mathlib.Core.Path.{◌≡◌, refl, sym, ap, ◌∙◌}
 use mathlib.Core.List.{List, [], ◌∷◌, ◌++◌, map, map-append, head-eq_of_cons-eq, tail-eq_of_cons-eq, cons-ne-nil}
 use Prim.Native.Nat.{ℕ, zero, suc, ◌-◌}
 use lib.ListN.{length, take, replicate, length-map}
+use Rattle.std.proofs.lemmas.List.{take-map}
 use Rattle.graph.specs.Entry.{cleared}
 use Rattle.nodes.specs.Row.{levels, lows, highs, zero_node, cleared_row}
 use Rattle.nodes.specs.declared.row.Node.{Node}
@@ -20,30 +21,13 @@ pub same_row : (xs ys : List Node) → levels xs ≡ levels ys → lows xs ≡ l
 unfolding levels lows highs
 same_row = same
 
-map_take : (f : Node → ℕ) (k : ℕ) (xs : List Node) → map f (take k xs) ≡ take k (map f xs)
-map_take f zero xs = refl
-map_take f (suc k) [] = refl
-map_take f (suc k) (x ∷ xs) = ap {B = List ℕ} (λ r. f x ∷ r) (map_take f k xs)
-
-pub levels_take : (k : ℕ) (xs : List Node) → levels (take k xs) ≡ take k (levels xs)
-unfolding levels
-levels_take k xs = map_take (λ x. x.level) k xs
-
-pub lows_take : (k : ℕ) (xs : List Node) → lows (take k xs) ≡ take k (lows xs)
-unfolding lows
-lows_take k xs = map_take (λ x. x.low) k xs
-
-pub highs_take : (k : ℕ) (xs : List Node) → highs (take k xs) ≡ take k (highs xs)
-unfolding highs
-highs_take k xs = map_take (λ x. x.high) k xs
-
 map_replicate : (f : Node → ℕ) (k : ℕ) (x : Node) → map f (replicate k x) ≡ replicate k (f x)
 map_replicate f zero x = refl
 map_replicate f (suc k) x = ap {B = List ℕ} (λ r. f x ∷ r) (map_replicate f k x)
 
 map_cleared : (f : Node → ℕ) (c : ℕ) (xs : List Node) (x : Node) → f x ≡ 0 → map f (take c xs ++ replicate (length xs - c) x) ≡ take c (map f xs) ++ replicate (length (map f xs) - c) 0
 map_cleared f c xs x e =
-    map-append f (take c xs) (replicate (length xs - c) x) ∙ ap (λ (us : List ℕ). us ++ map f (replicate (length xs - c) x)) (map_take f c xs) ∙
+    map-append f (take c xs) (replicate (length xs - c) x) ∙ ap (λ (us : List ℕ). us ++ map f (replicate (length xs - c) x)) (sym (take-map f c xs)) ∙
     ap (λ (us : List ℕ). take c (map f xs) ++ us) (map_replicate f (length xs - c) x ∙ ap (replicate (length xs - c)) e ∙ ap (λ (k : ℕ). replicate (k - c) 0) (sym (length-map xs f)))
 
 pub levels-cleared : (c : ℕ) (xs : List Node) → levels (cleared_row c xs) ≡ cleared c (levels xs)

@@ -1,11 +1,10 @@
 -- The list generator on a row of records: the promises of the three slices, said of the row.
-use Rattle.std.specs.Prelude.{◌≡◌, cond, List, ℕ, ◌≤◌, ◌<◌, take}
+use Rattle.std.specs.Prelude.{◌≡◌, cond, List, ℕ, Result}
 use Rattle.list.specs.Entry.{refusal, changes_nothing, Generates}
-use Rattle.list.specs.declared.entry.Generated.{Generated}
-use Rattle.list.specs.declared.entry.Generated.TheVariants.{Refused}
-use Rattle.nodes.specs.Row.{levels, lows, highs, cleared_row, over_refusal}
+use Rattle.rule.specs.declared.refusal.Refused.{Refused}
+use Rattle.nodes.specs.Row.{levels, lows, highs, cleared_row}
 use Rattle.nodes.specs.declared.row.Node.{Node}
-use Rattle.nodes.specs.declared.generator.Listing.{Listing}
+use Rattle.nodes.specs.declared.row.RowMut.{RowMut}
 
 module _ (n c : ℕ) (xs : List Node) (a b : ℕ) (room : List ℕ) where
   -- The number of the first broken condition for the three lists of the row, or 0.
@@ -17,11 +16,10 @@ module _ (n c : ℕ) (xs : List Node) (a b : ℕ) (room : List ℕ) where
   row_left = cond (changes_nothing n c (levels xs) (lows xs) (highs xs) a b room row_refusal) xs (cleared_row c xs)
 
   -- What the generator promises of the row, the room and the answer.
-  pub record RowGenerates (ys : List Node) (room' : List ℕ) (r : Generated) : Type 0 where
-    pub lists : Generates n c (levels xs) (lows xs) (highs xs) a b room (levels ys) (lows ys) (highs ys) room' r
+  pub record RowGenerates (c' : ℕ) (ys : List Node) (room' : List ℕ) (r : Result ℕ Refused) : Type 0 where
+    pub lists : Generates n c (levels xs) (lows xs) (highs xs) a b room c' (levels ys) (lows ys) (highs ys) room' r
     pub row : ys ≡ row_left
 
--- The same of an array that holds the first records of a row of some length.
-pub record GeneratesOn (n c size : ℕ) (table : List Node) (a b : ℕ) (room room' : List ℕ) (r : Listing) : Type 0 where
-  pub within : size ≤ 4096 → RowGenerates n c (take size table) a b room (take size r.table) room' r.answer
-  pub beyond : 4096 < size → (r.table ≡ table) × (room' ≡ room) × (r.answer ≡ Refused (over_refusal n) 0)
+-- The same of a lent row.
+abbrev pub GeneratesIn : RowMut → ℕ → ℕ → List ℕ → RowMut → List ℕ → Result ℕ Refused → Type 0
+GeneratesIn r a b room r' room' answer = RowGenerates r.columns r.count r.nodes.now a b room r'.count r'.nodes.now room' answer

@@ -1,12 +1,11 @@
 -- A function text read into a row of records: the promises of the three slices, said of the row.
-use Rattle.std.specs.Prelude.{◌≡◌, false, cond, ◌||◌, List, [], ◌∷◌, ℕ, suc, ◌≤◌, ◌<◌, eqb, leb, length, take}
+use Rattle.std.specs.Prelude.{◌≡◌, false, cond, ◌||◌, List, [], ◌∷◌, ℕ, suc, eqb, leb, length, Result}
 use Rattle.rule.specs.Refusal.{first_broken, text_over, table_over}
 use Rattle.text.specs.Function.{function_refusal, ReadsFunction}
 use Rattle.text.specs.declared.function.Function.{Function}
-use Rattle.text.specs.declared.function.Function.TheVariants.{Refused}
+use Rattle.rule.specs.declared.refusal.Refused.{Refused}
 use Rattle.nodes.specs.Row.{levels, lows, highs, cleared_row}
 use Rattle.nodes.specs.declared.row.Node.{Node}
-use Rattle.nodes.specs.declared.reading.Entered.{Entered}
 
 module _ (text : List ℕ) (xs : List Node) where
   -- The row that a refusal leaves: 10 and 2 change nothing, the others leave it all zero.
@@ -14,15 +13,10 @@ module _ (text : List ℕ) (xs : List Node) where
   left_unread r = cond (eqb r text_over || eqb r table_over) xs (cleared_row 0 xs)
 
   -- What reading promises of the row and the answer.
-  pub record RowReads (ys : List Node) (a : Function) : Type 0 where
+  pub record RowReads (ys : List Node) (a : Result Function Refused) : Type 0 where
     pub lists : ReadsFunction text (levels xs) (lows xs) (highs xs) (levels ys) (lows ys) (highs ys) a
     pub refused : (r : ℕ) → function_refusal text (levels xs) (lows xs) (highs xs) ≡ suc r → ys ≡ left_unread (suc r)
 
 -- The refusal of a row of more than 4,096 records: 10 for a text over 32,768 bytes, else 2.
 unfoldable pub over_text : List ℕ → ℕ
 over_text text = first_broken (record { number = text_over; kept = leb (length text) 32768 } ∷ record { number = table_over; kept = false } ∷ [])
-
--- The same of an array that holds the first records of a row of some length.
-pub record ReadsOn (text : List ℕ) (size : ℕ) (table : List Node) (r : Entered) : Type 0 where
-  pub within : size ≤ 4096 → RowReads text (take size table) (take size r.table) r.answer
-  pub beyond : 4096 < size → (r.table ≡ table) × (r.answer ≡ Refused (over_text text) 0)

@@ -1,7 +1,9 @@
--- A row of node records: its three lists, and one row copied over another.
-use Rattle.std.specs.Prelude.{false, List, [], ◌∷◌, map, ◌++◌, ℕ, ◌-◌, leb, length, take, drop, replicate}
+-- A row of node records, and its three lists.
+use Rattle.std.specs.Prelude.{◌≡◌, false, List, [], ◌∷◌, map, ◌++◌, ℕ, ◌-◌, leb, length, take, replicate}
 use Rattle.rule.specs.Refusal.{first_broken, columns_over, table_over}
 use Rattle.nodes.specs.declared.row.Node.{Node}
+use Rattle.nodes.specs.declared.row.RowMut.{RowMut}
+use Rattle.nodes.specs.declared.apart.Apart.{Apart}
 
 -- The levels, the lows and the highs of a row's records.
 unfoldable pub levels : List Node → List ℕ
@@ -17,9 +19,23 @@ highs xs = map (λ x. x.high) xs
 unfoldable pub zero_node : Node
 zero_node = record { level = 0; low = 0; high = 0 }
 
--- The second row, its first records those of the first row, as many as both have.
-unfoldable pub over : {X : Type 0} → List X → List X → List X
-over xs ys = take (length ys) xs ++ drop (length xs) ys
+-- The first numbers of three arrays are those of a row's records.
+pub record ApartOf (xs : List Node) (a : Apart) : Type 0 where
+  pub level : take (length xs) a.level ≡ levels xs
+  pub low : take (length xs) a.low ≡ lows xs
+  pub high : take (length xs) a.high ≡ highs xs
+
+-- A row's records take those numbers.
+pub record TogetherIn (a : Apart) (xs : List Node) (xs' : List Node) : Type 0 where
+  pub level : levels xs' ≡ take (length xs) a.level
+  pub low : lows xs' ≡ take (length xs) a.low
+  pub high : highs xs' ≡ take (length xs) a.high
+
+-- Afterwards a row has the same columns and the same records, as many.
+pub record SameRow (r : RowMut) (r' : RowMut) : Type 0 where
+  pub columns : r'.columns ≡ r.columns
+  pub nodes : r'.nodes.ghost_name ≡ r.nodes.ghost_name
+  pub long : length r'.nodes.now ≡ length r.nodes.now
 
 -- A row whose records from place c on are zero.
 unfoldable pub cleared_row : ℕ → List Node → List Node

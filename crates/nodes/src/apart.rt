@@ -1,59 +1,47 @@
-// The records of an array as three arrays of numbers, and together again.
-ghost use Rattle.std.specs.Prelude.{◌≡◌};
-ghost use Rattle.nodes.specs.Row.{levels, lows, highs};
+// The records of a row as three arrays of numbers, and together again.
+ghost use Rattle.std.specs.Prelude.{◌≡◌, ◌≤◌, length};
+ghost use Rattle.nodes.specs.Row.{ApartOf, TogetherIn};
 
-use crate::row;
 use crate::row::Node;
 
-pub fn levels_of(table: [Node; 4096]) -> [u16; 4096]
-    ensures { result ≡ levels table }
-{
-    let mut level = [0; 4096];
-    let mut i = 0;
-    while i < 4096 {
-        level[i] = table[i].level;
-        i += 1;
-    }
-    level
+// The level, the low and the high number of each record; zeros past the row.
+#[derive(Drop)]
+pub struct Apart {
+    pub level: [u16; 4096],
+    pub low: [u16; 4096],
+    pub high: [u16; 4096],
 }
 
-pub fn lows_of(table: [Node; 4096]) -> [u16; 4096]
-    ensures { result ≡ lows table }
-{
-    let mut low = [0; 4096];
-    let mut i = 0;
-    while i < 4096 {
-        low[i] = table[i].low;
-        i += 1;
-    }
-    low
-}
-
-pub fn highs_of(table: [Node; 4096]) -> [u16; 4096]
-    ensures { result ≡ highs table }
-{
-    let mut high = [0; 4096];
-    let mut i = 0;
-    while i < 4096 {
-        high[i] = table[i].high;
-        i += 1;
-    }
-    high
-}
-
-pub fn together(level: [u16; 4096], low: [u16; 4096], high: [u16; 4096]) -> [Node; 4096]
-    ensures { (levels result ≡ level) × (lows result ≡ low) × (highs result ≡ high) }
-{
-    let mut table = row::zeros();
-    let mut i = 0;
-    while i < 4096 {
-        let node = Node {
-            level: level[i],
-            low: low[i],
-            high: high[i],
+impl Apart {
+    // The records of a row.
+    pub fn of(nodes: &[Node]) -> Apart
+        requires { length nodes.now ≤ 4096 }
+        ensures { ApartOf nodes.now result }
+    {
+        let mut apart = Apart {
+            level: [0; 4096],
+            low: [0; 4096],
+            high: [0; 4096],
         };
-        table[i] = node;
-        i += 1;
+        for (i, node) in nodes.iter().enumerate() {
+            apart.level[i] = node.level;
+            apart.low[i] = node.low;
+            apart.high[i] = node.high;
+        }
+        apart
     }
-    table
+
+    // The records go back into the row.
+    pub fn store(&self, nodes: &mut [Node])
+        requires { length nodes.old ≤ 4096 }
+        ensures { TogetherIn self.now nodes.old nodes.new }
+    {
+        for (i, node) in nodes.iter_mut().enumerate() {
+            *node = Node {
+                level: self.level[i],
+                low: self.low[i],
+                high: self.high[i],
+            };
+        }
+    }
 }

@@ -1,70 +1,68 @@
 // The list generator on a lent row of records.
-ghost use Rattle.nodes.specs.Generator.{RowGenerates, GeneratesOn};
+ghost use Rattle.list.specs.Entry.{Generates};
+ghost use Rattle.nodes.specs.Row.{SameRow};
+ghost use Rattle.nodes.specs.Generator.{GeneratesIn};
 
-use crate::row::Node;
-use crate::{apart, row};
+use crate::apart::Apart;
+use crate::row;
+use crate::row::RowMut;
+use graph::build::TableMut;
 use list::entry;
-use list::entry::Generated;
+use rule::refusal::Refused;
 
-// The answer, with the table after the generator.
-#[derive(Drop)]
-pub struct Listing {
-    pub answer: Generated,
-    pub table: [Node; 4096],
-}
-
-// The generator on the first records of an array, as many as the row has.
-fn generate_on(
+// The list of the rule for a lower and an upper root of a table in three slices.
+// Kept: the parts of the arrays go through a call; put into the table's struct at once, what they are after it is not proved.
+fn on_slices(
     columns: u16,
-    table: [Node; 4096],
-    size: usize,
     count: usize,
+    level: &mut [u16],
+    low: &mut [u16],
+    high: &mut [u16],
     lower: u16,
     upper: u16,
     room: &mut [u32],
-) -> Listing
-    ensures { GeneratesOn columns count size table lower upper room.old room.new result }
+) -> Result<usize, Refused>
+    ensures { Generates columns count level.old low.old high.old lower upper room.old count level.new low.new high.new room.new result }
 {
-    if 4096 < size {
-        let number = row::over_refusal(columns);
-        let answer = Generated::Refused(number, 0);
-        return Listing { answer, table };
-    }
-    let mut level = apart::levels_of(table);
-    let mut low = apart::lows_of(table);
-    let mut high = apart::highs_of(table);
-    let answer = entry::generate(
+    let mut table = TableMut {
         columns,
-        &mut level[..size],
-        &mut low[..size],
-        &mut high[..size],
         count,
-        lower,
-        upper,
-        room,
-    );
-    let after = apart::together(level, low, high);
-    Listing {
-        answer,
-        table: after,
-    }
+        level,
+        low,
+        high,
+    };
+    entry::generate(&mut table, lower, upper, room)
 }
 
 // The list of the rule for a lower and an upper root.
 pub fn generate(
-    columns: u16,
-    nodes: &mut [Node],
-    count: usize,
+    row: &mut RowMut<'_>,
     lower: u16,
     upper: u16,
     room: &mut [u32],
-) -> Generated
-    ensures { RowGenerates columns count nodes.old lower upper room.old nodes.new room.new result }
+) -> Result<usize, Refused>
+    ensures same { SameRow row.old row.new }
+    ensures generates { GeneratesIn row.old lower upper room.old row.new room.new result }
 {
-    let size = nodes.len();
-    let table = row::load(nodes);
-    let listing = generate_on(columns, table, size, count, lower, upper, room);
-    let after = listing.table;
-    row::save(nodes, after);
-    listing.answer
+    let size = row.nodes.len();
+    if 4096 < size {
+        return Err(row::over_refusal(row.columns).returning(0));
+    }
+    let Apart {
+        mut level,
+        mut low,
+        mut high,
+    } = Apart::of(row.nodes);
+    let answer = on_slices(
+        row.columns,
+        row.count,
+        &mut level[..size],
+        &mut low[..size],
+        &mut high[..size],
+        lower,
+        upper,
+        room,
+    );
+    Apart { level, low, high }.store(row.nodes);
+    answer
 }

@@ -1,88 +1,74 @@
 // The building operations on a lent row of records.
+ghost use Rattle.std.specs.Prelude.{◌≡◌};
 ghost use Rattle.graph.specs.Entry.{Operated};
-ghost use Rattle.nodes.specs.Operation.{ranged_for, result_for, Operates, OperatesOn};
+ghost use Rattle.nodes.specs.Row.{SameRow};
+ghost use Rattle.nodes.specs.Operation.{ranged_for, result_for, OperatesIn};
 
-use crate::row::Node;
-use crate::{apart, row};
+use crate::apart::Apart;
+use crate::row;
+use crate::row::RowMut;
+use graph::build::TableMut;
 use graph::entry;
-use graph::entry::Answer;
+use graph::operation::Op;
+use rule::refusal::Refusal;
 
 // A building operation with its operands: a column, or two roots.
 #[derive(Clone, Copy)]
 pub enum Operation {
     Variable(u16),
-    And(u16, u16),
-    Or(u16, u16),
-    Difference(u16, u16),
+    Of(Op, u16, u16),
 }
 
-// The answer, with the table after the operation.
-#[derive(Drop)]
-pub struct Outcome {
-    pub answer: Answer,
-    pub table: [Node; 4096],
-}
-
-// The operation on three slices.
+// The operation on three slices; the count of records in use becomes the one after it.
+// Kept: the parts of the arrays go through a call; put into the table's struct at once, what they are after it is not proved.
+#[tactic(auto, unfolding(crate::specs::Operation::ranged_for, crate::specs::Operation::result_for))]
 fn on_slices(
     operation: Operation,
     columns: u16,
+    count: &mut usize,
     level: &mut [u16],
     low: &mut [u16],
     high: &mut [u16],
-    count: usize,
-) -> Answer
-    ensures { Operated columns count level.old low.old high.old (ranged_for operation columns count) (result_for operation columns level.old low.old high.old) level.new low.new high.new result }
+) -> Result<u16, Refusal>
+    ensures { Operated columns count.old level.old low.old high.old (ranged_for operation columns count.old) (result_for operation columns level.old low.old high.old) count.new level.new low.new high.new result }
 {
-    match operation {
-        Operation::Variable(column) => entry::variable(columns, level, low, high, count, column),
-        Operation::And(a, b) => entry::and(columns, level, low, high, count, a, b),
-        Operation::Or(a, b) => entry::or(columns, level, low, high, count, a, b),
-        Operation::Difference(a, b) => entry::difference(columns, level, low, high, count, a, b),
-    }
-}
-
-// The operation on the first records of an array, as many as the row has.
-fn build(
-    operation: Operation,
-    columns: u16,
-    table: [Node; 4096],
-    size: usize,
-    count: usize,
-) -> Outcome
-    ensures { OperatesOn operation columns count size table result }
-{
-    if 4096 < size {
-        let number = row::over_refusal(columns);
-        let answer = Answer::Refused(number, count);
-        return Outcome { answer, table };
-    }
-    let mut level = apart::levels_of(table);
-    let mut low = apart::lows_of(table);
-    let mut high = apart::highs_of(table);
-    let answer = on_slices(
-        operation,
+    let mut table = TableMut {
         columns,
-        &mut level[..size],
-        &mut low[..size],
-        &mut high[..size],
-        count,
-    );
-    let after = apart::together(level, low, high);
-    Outcome {
-        answer,
-        table: after,
-    }
+        count: *count,
+        level,
+        low,
+        high,
+    };
+    let answer = match operation {
+        Operation::Variable(column) => entry::variable(&mut table, column),
+        Operation::Of(op, a, b) => entry::operate(&mut table, op, a, b),
+    };
+    *count = table.count;
+    answer
 }
 
 // A building operation on the row.
-pub fn operate(operation: Operation, columns: u16, nodes: &mut [Node], count: usize) -> Answer
-    ensures { Operates operation columns count nodes.old nodes.new result }
+pub fn operate(row: &mut RowMut<'_>, operation: Operation) -> Result<u16, Refusal>
+    ensures same { SameRow row.old row.new }
+    ensures operates { OperatesIn operation row.old row.new result }
 {
-    let size = nodes.len();
-    let table = row::load(nodes);
-    let outcome = build(operation, columns, table, size, count);
-    let after = outcome.table;
-    row::save(nodes, after);
-    outcome.answer
+    let size = row.nodes.len();
+    if 4096 < size {
+        return Err(row::over_refusal(row.columns));
+    }
+    let Apart {
+        mut level,
+        mut low,
+        mut high,
+    } = Apart::of(row.nodes);
+    let answer = on_slices(
+        operation,
+        row.columns,
+        &mut row.count,
+        &mut level[..size],
+        &mut low[..size],
+        &mut high[..size],
+    );
+    Apart { level, low, high }.store(row.nodes);
+    answer
 }

@@ -1,63 +1,45 @@
 // A function text read into a lent row of records.
 ghost use Rattle.std.specs.Prelude.{◌≡◌};
-ghost use Rattle.nodes.specs.Reading.{over_text, RowReads, ReadsOn};
+ghost use Rattle.rule.specs.Refusal.{refusal_of};
+ghost use Rattle.nodes.specs.Reading.{over_text, RowReads};
 
+use crate::apart::Apart;
 use crate::row::Node;
-use crate::{apart, row};
-use rule::refusal;
+use rule::refusal::{Refusal, Refused};
 use text::function;
 use text::function::Function;
 
-// The answer, with the table after reading.
-#[derive(Drop)]
-pub struct Entered {
-    pub answer: Function,
-    pub table: [Node; 4096],
-}
-
 // The refusal of a row of more than 4,096 records.
-fn over_text(text: &[u8]) -> u16
-    ensures { result ≡ over_text text.now }
+#[tactic(auto, unfolding(crate::specs::Reading::over_text, rule::specs::Refusal::first_broken, rule::specs::Refusal::refusal_of))]
+fn over_text(text: &[u8]) -> Refusal
+    ensures { result ≡ refusal_of (over_text text.now) }
 {
     if 32768 < text.len() {
-        return refusal::TEXT_OVER;
+        Refusal::TextOver
+    } else {
+        Refusal::TableOver
     }
-    refusal::TABLE_OVER
 }
 
-// The text read into the first records of an array, as many as the row has.
-fn read_on(text: &[u8], table: [Node; 4096], size: usize) -> Entered
-    ensures { ReadsOn text.now size table result }
+// The function of a text, in the row.
+pub fn read(text: &[u8], nodes: &mut [Node]) -> Result<Function, Refused>
+    ensures { RowReads text.now nodes.old nodes.new result }
 {
+    let size = nodes.len();
     if 4096 < size {
-        let number = over_text(text);
-        let answer = Function::Refused(number, 0);
-        return Entered { answer, table };
+        return Err(over_text(text).returning(0));
     }
-    let mut level = apart::levels_of(table);
-    let mut low = apart::lows_of(table);
-    let mut high = apart::highs_of(table);
+    let Apart {
+        mut level,
+        mut low,
+        mut high,
+    } = Apart::of(nodes);
     let answer = function::read_function(
         text,
         &mut level[..size],
         &mut low[..size],
         &mut high[..size],
     );
-    let after = apart::together(level, low, high);
-    Entered {
-        answer,
-        table: after,
-    }
-}
-
-// The function of a text, in the row.
-pub fn read(text: &[u8], nodes: &mut [Node]) -> Function
-    ensures { RowReads text.now nodes.old nodes.new result }
-{
-    let size = nodes.len();
-    let table = row::load(nodes);
-    let outcome = read_on(text, table, size);
-    let after = outcome.table;
-    row::save(nodes, after);
-    outcome.answer
+    Apart { level, low, high }.store(nodes);
+    answer
 }

@@ -1,9 +1,9 @@
-// The records of a lent row in an array by value, and back. Both copy as many records as row and array have, so that the
-// entries need no bound of the row's length.
-ghost use Rattle.std.specs.Prelude.{◌≡◌, min, replicate};
-ghost use Rattle.nodes.specs.Row.{zero_node, over, over_refusal};
+// A node table as a lent row of records, to be read or to be built in.
+ghost use Rattle.std.specs.Prelude.{◌≡◌};
+ghost use Rattle.rule.specs.Refusal.{refusal_of};
+ghost use Rattle.nodes.specs.Row.{over_refusal};
 
-use rule::refusal;
+use rule::refusal::Refusal;
 
 // Laid out as C lays it out: three 16-bit numbers, one after the other.
 #[repr(C)]
@@ -14,56 +14,30 @@ pub struct Node {
     pub high: u16,
 }
 
-// An array of records that are zero.
-pub fn zeros() -> [Node; 4096]
-    ensures { result ≡ replicate 4096 zero_node }
-{
-    [Node {
-        level: 0,
-        low: 0,
-        high: 0,
-    }; 4096]
+// A row that is lent to be read: its columns, the count of records in use, and the records.
+#[derive(Clone, Copy)]
+pub struct RowRef<'a> {
+    pub columns: u16,
+    pub count: usize,
+    pub nodes: &'a [Node],
 }
 
-// How many records both have, a row of some length and the array.
-fn shared(size: usize) -> usize
-    ensures { result ≡ min size 4096 }
-{
-    if size < 4096 { size } else { 4096 }
-}
-
-// The first records of a row, then zeros.
-pub fn load(nodes: &[Node]) -> [Node; 4096]
-    ensures { result ≡ over nodes.now (replicate 4096 zero_node) }
-{
-    let mut table = zeros();
-    let n = shared(nodes.len());
-    let mut i = 0;
-    while i < n {
-        table[i] = nodes[i];
-        i += 1;
-    }
-    table
-}
-
-// The first records of a row become those of an array; the others stay.
-pub fn save(nodes: &mut [Node], table: [Node; 4096])
-    ensures { nodes.new ≡ over table nodes.old }
-{
-    let n = shared(nodes.len());
-    let mut i = 0;
-    while i < n {
-        nodes[i] = table[i];
-        i += 1;
-    }
+// A row that is lent to be built in.
+#[derive(Drop)]
+pub struct RowMut<'a> {
+    pub columns: u16,
+    pub count: usize,
+    pub nodes: &'a mut [Node],
 }
 
 // The refusal of a row of more than 4,096 records.
-pub fn over_refusal(columns: u16) -> u16
-    ensures { result ≡ over_refusal columns }
+#[tactic(auto, unfolding(crate::specs::Row::over_refusal, rule::specs::Refusal::first_broken, rule::specs::Refusal::refusal_of))]
+pub fn over_refusal(columns: u16) -> Refusal
+    ensures { result ≡ refusal_of (over_refusal columns) }
 {
     if 16 < columns {
-        return refusal::COLUMNS_OVER;
+        Refusal::ColumnsOver
+    } else {
+        Refusal::TableOver
     }
-    refusal::TABLE_OVER
 }

@@ -1,46 +1,29 @@
 // The value of a root at a point, on a lent row of records.
 ghost use Rattle.std.specs.Prelude.{◌≡◌};
-ghost use Rattle.nodes.specs.Value.{row_value, ValuesOn};
+ghost use Rattle.nodes.specs.Value.{value_in};
 
-use crate::row::Node;
-use crate::{apart, row};
+use crate::apart::Apart;
+use crate::row;
+use crate::row::RowRef;
 use graph::entry;
-use graph::entry::Valued;
-
-// The value on the first records of an array, as many as the row has.
-fn value_on(
-    columns: u16,
-    table: [Node; 4096],
-    size: usize,
-    count: usize,
-    root: u16,
-    point: u32,
-) -> Valued
-    ensures { ValuesOn columns count size table root point result }
-{
-    if 4096 < size {
-        let number = row::over_refusal(columns);
-        return Valued::Denied(number);
-    }
-    let level = apart::levels_of(table);
-    let low = apart::lows_of(table);
-    let high = apart::highs_of(table);
-    entry::value(
-        columns,
-        &level[..size],
-        &low[..size],
-        &high[..size],
-        count,
-        root,
-        point,
-    )
-}
+use graph::table::TableRef;
+use rule::refusal::Refusal;
 
 // The value of a root at a point.
-pub fn value(columns: u16, nodes: &[Node], count: usize, root: u16, point: u32) -> Valued
-    ensures { result ≡ row_value columns count nodes.now root point }
+pub fn value(row: RowRef<'_>, root: u16, point: u32) -> Result<bool, Refusal>
+    ensures { result ≡ value_in row.entry root point }
 {
-    let size = nodes.len();
-    let table = row::load(nodes);
-    value_on(columns, table, size, count, root, point)
+    let size = row.nodes.len();
+    if 4096 < size {
+        return Err(row::over_refusal(row.columns));
+    }
+    let apart = Apart::of(row.nodes);
+    let table = TableRef {
+        columns: row.columns,
+        count: row.count,
+        level: &apart.level[..size],
+        low: &apart.low[..size],
+        high: &apart.high[..size],
+    };
+    entry::value(table, root, point)
 }

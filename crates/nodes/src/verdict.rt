@@ -1,55 +1,30 @@
 // The verdict on any list, on a lent row of records.
 ghost use Rattle.std.specs.Prelude.{◌≡◌};
-ghost use Rattle.nodes.specs.Verdict.{row_verdict, JudgesOn};
+ghost use Rattle.nodes.specs.Verdict.{verdict_in};
 
-use crate::row::Node;
-use crate::{apart, row};
+use crate::apart::Apart;
+use crate::row;
+use crate::row::RowRef;
 use checker::entry;
-use checker::judged::Judged;
-
-// The verdict on the first records of an array, as many as the row has.
-fn check_on(
-    columns: u16,
-    table: [Node; 4096],
-    size: usize,
-    count: usize,
-    lower: u16,
-    upper: u16,
-    list: &[u32],
-) -> Judged
-    ensures { JudgesOn columns count size table lower upper list.now result }
-{
-    if 4096 < size {
-        let number = row::over_refusal(columns);
-        return Judged::Refused(number, 0);
-    }
-    let level = apart::levels_of(table);
-    let low = apart::lows_of(table);
-    let high = apart::highs_of(table);
-    entry::check(
-        columns,
-        &level[..size],
-        &low[..size],
-        &high[..size],
-        count,
-        lower,
-        upper,
-        list,
-    )
-}
+use checker::fault::Verdict;
+use graph::table::TableRef;
+use rule::refusal::Refused;
 
 // The verdict of the rule on any list for a lower and an upper root.
-pub fn check(
-    columns: u16,
-    nodes: &[Node],
-    count: usize,
-    lower: u16,
-    upper: u16,
-    list: &[u32],
-) -> Judged
-    ensures { result ≡ row_verdict columns count nodes.now lower upper list.now }
+pub fn check(row: RowRef<'_>, lower: u16, upper: u16, list: &[u32]) -> Result<Verdict, Refused>
+    ensures { result ≡ verdict_in row.entry lower upper list.now }
 {
-    let size = nodes.len();
-    let table = row::load(nodes);
-    check_on(columns, table, size, count, lower, upper, list)
+    let size = row.nodes.len();
+    if 4096 < size {
+        return Err(row::over_refusal(row.columns).returning(0));
+    }
+    let apart = Apart::of(row.nodes);
+    let table = TableRef {
+        columns: row.columns,
+        count: row.count,
+        level: &apart.level[..size],
+        low: &apart.low[..size],
+        high: &apart.high[..size],
+    };
+    entry::check(table, lower, upper, list)
 }

@@ -1,6 +1,11 @@
--- `nodes::value::value` meets its contract: the row is loaded, and the value is that of the array.
-use Rattle.nodes.proofs.Values.{value_loaded}
+-- `nodes::value::value` meets its contract: a row of more than 4,096 records is refused, and any other value is that of the
+-- three lists of the row.
+use Rattle.std.proofs.Common.{sym, ap, ◌∙◌, Err}
+use Rattle.nodes.proofs.Values.{value_ran, over_value}
 use Rattle.nodes.proofs.value.value.Goals as goal
 
+pub returns-then-size-gt4096 : goal.returns-then-size-gt4096
+returns-then-size-gt4096 c = ap Err c.over_refusal.ensures ∙ sym (over_value _ _ _ _ _ c.if-size-gt4096.true)
+
 pub returns : goal.returns
-returns c = value_loaded _ _ _ _ _ _ _ c.load-table.ensures c.value_on.ensures
+returns c = value_ran _ _ _ _ _ c.of-apart.ensures.level c.of-apart.ensures.low c.of-apart.ensures.high c.value.ensures

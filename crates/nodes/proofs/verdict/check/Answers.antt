@@ -1,6 +1,14 @@
--- `nodes::verdict::check` meets its contract: the row is loaded, and the verdict is that of the array.
-use Rattle.nodes.proofs.Verdicts.{verdict_loaded}
+-- `nodes::verdict::check` meets its contract: a row of more than 4,096 records is refused, and any other verdict is that of the
+-- three lists of the row.
+use Rattle.std.proofs.Common.{sym, ap, ◌∙◌, Err}
+use Rattle.nodes.proofs.Refusals.{refused-by}
+use Rattle.nodes.proofs.Verdicts.{judge_ran, over-verdict}
 use Rattle.nodes.proofs.verdict.check.Goals as goal
 
+pub returns-then-size-gt4096 : goal.returns-then-size-gt4096
+returns-then-size-gt4096 c =
+    ap Err (refused-by c.returning.ensures.refusal c.over_refusal.ensures c.returning.ensures.returned) ∙
+    sym (over-verdict _ _ _ _ _ _ c.if-size-gt4096.true)
+
 pub returns : goal.returns
-returns c = verdict_loaded _ _ _ _ _ _ _ _ c.load-table.ensures c.check_on.ensures
+returns c = judge_ran _ _ _ _ _ _ c.of-apart.ensures.level c.of-apart.ensures.low c.of-apart.ensures.high c.check.ensures
