@@ -1,139 +1,121 @@
 // Answers told in numbers.
-ghost use Rattle.telling.specs.Told.{Told, ToldValue, ToldList, ToldVerdict, ToldWritten, ToldCandidate, ToldFunction};
+// Kept: numbers for refusals and kinds, since the C interface has them.
+ghost use Rattle.std.specs.Prelude.{◌≡◌};
+ghost use Rattle.telling.specs.Told.{Told, ToldValue, ToldList, ToldVerdict, ToldWritten, ToldCandidate, ToldFunction, kind_and_values};
 
-use checker::judged::Judged;
-use graph::entry::{Answer, Valued};
-use list::entry::Generated;
-use rule::refusal;
-use text::candidate::Candidate;
+use checker::fault::{Fault, Verdict};
+use rule::refusal::{Refusal, Refused};
 use text::function::Function;
-use text::writing::Written;
 
-// The status of an answer; its root and its count go into the array.
-pub fn tell(answer: Answer, out: &mut [u64; 2]) -> u16
-    ensures { Told answer result out.new }
+// The status of an entry that is done.
+const DONE: u16 = 0;
+
+// The status of an operation; its root and the count of records in use after it go into the array.
+#[tactic(auto, unfolding(crate::specs::Told::root_and_count, graph::specs::Entry::numbers_of))]
+pub fn tell(answer: Result<u16, Refusal>, count: usize, out: &mut [u64; 2]) -> u16
+    ensures { Told answer count result out.new }
 {
     match answer {
-        Answer::Done(root, count) => {
+        Ok(root) => {
             *out = [root as u64, count as u64];
-            refusal::DONE
+            DONE
         }
-        Answer::Refused(number, count) => {
+        Err(refusal) => {
             *out = [0, count as u64];
-            number
+            refusal.number()
         }
     }
 }
 
 // The status of a value; the value goes into the array as 0 or 1.
-pub fn tell_value(answer: Valued, out: &mut [u64; 1]) -> u16
+#[tactic(auto, unfolding(crate::specs::Told::value_alone, graph::specs::Entry::value_of))]
+pub fn tell_value(answer: Result<bool, Refusal>, out: &mut [u64; 1]) -> u16
     ensures { ToldValue answer result out.new }
 {
     match answer {
-        Valued::Is(value) => {
+        Ok(value) => {
             *out = [value as u64];
-            refusal::DONE
+            DONE
         }
-        Valued::Denied(number) => {
+        Err(refusal) => {
             *out = [0];
-            number
+            refusal.number()
         }
     }
 }
 
-// The status of a generation; what a refusal returns and the length of the list go into the array.
-pub fn tell_list(answer: Generated, out: &mut [u64; 2]) -> u16
-    ensures { ToldList answer result out.new }
+// The status of a generation, a writing or a candidate's reading; what a refusal returns and the length that is answered go into
+// the array.
+#[tactic(auto, unfolding(crate::specs::Told::returned_and_length, crate::specs::Told::returned_and_written, crate::specs::Told::returned_and_rows, list::specs::Entry::numbers_of, text::specs::Writing::numbers_of, text::specs::Candidate::read_numbers))]
+pub fn tell_length(answer: Result<usize, Refused>, out: &mut [u64; 2]) -> u16
+    ensures list { ToldList answer result out.new }
+    ensures written { ToldWritten answer result out.new }
+    ensures candidate { ToldCandidate answer result out.new }
 {
     match answer {
-        Generated::Done(length) => {
+        Ok(length) => {
             *out = [0, length as u64];
-            refusal::DONE
+            DONE
         }
-        Generated::Refused(number, returned) => {
-            *out = [returned as u64, 0];
-            number
+        Err(refused) => {
+            *out = [refused.returned as u64, 0];
+            refused.refusal.number()
         }
+    }
+}
+
+// The kind of a verdict and its values.
+#[tactic(auto, unfolding(crate::specs::Told::kind_and_values, crate::specs::Told::verdict_numbers_of))]
+fn kind_and_values(verdict: Verdict) -> [u64; 3]
+    ensures { result ≡ kind_and_values (Ok verdict) }
+{
+    match verdict {
+        Ok(()) => [0, 0, 0],
+        Err(Fault::Off(cube, point)) => [1, cube as u64, point as u64],
+        Err(Fault::Missing(point)) => [2, point as u64, 0],
+        Err(Fault::Literal(cube, column)) => [3, cube as u64, column as u64],
+        Err(Fault::Cube(cube)) => [4, cube as u64, 0],
     }
 }
 
 // The status of a check; the kind of its verdict, or what a refusal returns, and two values go into the array.
-pub fn tell_verdict(answer: Judged, out: &mut [u64; 3]) -> u16
+#[tactic(auto, unfolding(crate::specs::Told::kind_and_values, crate::specs::Told::verdict_numbers_of))]
+pub fn tell_verdict(answer: Result<Verdict, Refused>, out: &mut [u64; 3]) -> u16
     ensures { ToldVerdict answer result out.new }
 {
     match answer {
-        Judged::Accept => {
-            *out = [0, 0, 0];
-            refusal::DONE
+        Ok(verdict) => {
+            *out = kind_and_values(verdict);
+            DONE
         }
-        Judged::Off(cube, point) => {
-            *out = [1, cube as u64, point as u64];
-            refusal::DONE
-        }
-        Judged::Missing(point) => {
-            *out = [2, point as u64, 0];
-            refusal::DONE
-        }
-        Judged::Literal(cube, column) => {
-            *out = [3, cube as u64, column as u64];
-            refusal::DONE
-        }
-        Judged::Cube(cube) => {
-            *out = [4, cube as u64, 0];
-            refusal::DONE
-        }
-        Judged::Refused(number, returned) => {
-            *out = [returned as u64, 0, 0];
-            number
-        }
-    }
-}
-
-// The status of a writing; what a refusal returns and the bytes written go into the array.
-pub fn tell_written(answer: Written, out: &mut [u64; 2]) -> u16
-    ensures { ToldWritten answer result out.new }
-{
-    match answer {
-        Written::Done(written) => {
-            *out = [0, written as u64];
-            refusal::DONE
-        }
-        Written::Refused(number, returned) => {
-            *out = [returned as u64, 0];
-            number
-        }
-    }
-}
-
-// The status of a candidate's reading; what a refusal returns and the length of the list go into the array.
-pub fn tell_candidate(answer: Candidate, out: &mut [u64; 2]) -> u16
-    ensures { ToldCandidate answer result out.new }
-{
-    match answer {
-        Candidate::Done(rows) => {
-            *out = [0, rows as u64];
-            refusal::DONE
-        }
-        Candidate::Refused(number, returned) => {
-            *out = [returned as u64, 0];
-            number
+        Err(refused) => {
+            *out = [refused.returned as u64, 0, 0];
+            refused.refusal.number()
         }
     }
 }
 
 // The status of a function text's reading; what a refusal returns, the columns, the count of records, L and U go into the
 // array.
-pub fn tell_function(answer: Function, out: &mut [u64; 5]) -> u16
+#[tactic(auto, unfolding(crate::specs::Told::returned_and_function, text::specs::Function::function_numbers))]
+pub fn tell_function(answer: Result<Function, Refused>, out: &mut [u64; 5]) -> u16
     ensures { ToldFunction answer result out.new }
 {
     match answer {
-        Function::Done(columns, count, lower, upper) => {
+        Ok(
+            Function {
+                columns,
+                count,
+                lower,
+                upper,
+            },
+        ) => {
             *out = [0, columns as u64, count as u64, lower as u64, upper as u64];
-            refusal::DONE
+            DONE
         }
-        Function::Refused(number, returned) => {
-            *out = [returned as u64, 0, 0, 0, 0];
-            number
+        Err(refused) => {
+            *out = [refused.returned as u64, 0, 0, 0, 0];
+            refused.refusal.number()
         }
     }
 }

@@ -1,2 +1,0 @@
--- The laws of telling.
-mod Telling
