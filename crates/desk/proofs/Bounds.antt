@@ -8,11 +8,10 @@ use lib.Dec.{leb}
 use lib.ListN.{length, replicate, length-append}
 use borrow.Author.Tests.{leb-true}
 use Rattle.rule.specs.Nodes.{add_all, need}
-use Rattle.rule.specs.Refusal.{Condition, first_broken, nodes_lack, list_lacks}
+use Rattle.rule.specs.Refusal.{first_broken}
 use Rattle.rule.specs.Rows.{Kind, Row, lower_of, upper_of, reading_names}
 use Rattle.rule.specs.Verdict.{Verdict, accept, off, missing, literal, cube}
 use Rattle.rule.proofs.Bools.{clash}
-use Rattle.graph.proofs.Refusals.{first-kept, others_kept}
 use Rattle.line.specs.Bytes.{bytes}
 use Rattle.line.specs.Meaning.{after_end}
 use Rattle.text.specs.Outcome.{Outcome, good, fault, outcome}
@@ -23,7 +22,7 @@ use Rattle.text.proofs.Written.{length_text}
 use Rattle.desk.specs.Said.{numeral, point_text, refused_text, verdict_text}
 use Rattle.desk.specs.Answer.{input_refusal, answer_by, rows_list, list_refusal, list_said, list_answer, candidate_said, check_answer, answer_room, Answers}
 use Rattle.desk.proofs.Saying.{length-numeral, length_point}
-use Rattle.desk.proofs.Reading.{kept-good, good-columns}
+use Rattle.desk.proofs.Reading.{kept_first, kept-good, good-columns}
 use Rattle.desk.proofs.Listed.{text_fits}
 
 -- At least one byte, and no more than the room.
@@ -66,20 +65,19 @@ verdict-inside n h (literal c k) = two_inside _ _ _ (omega arith) (numeral-short
 verdict-inside n h (cube c) = line_inside _ _ (omega arith) (numeral-short _)
 
 list_inside : (n : ℕ) (t : Kind) (rows : List Row) → n ≤ 16 → Inside (list_said n (rows_list n t rows) (list_refusal n t rows))
-unfolding list_said list_refusal
+unfolding list_said list_refusal first_broken
 list_inside n t rows h = go (list_refusal n t rows) refl
   where
-    need_kept : Condition
-    need_kept = record { number = nodes_lack; kept = leb (need (add_all [] (reading_names n t rows)) n (lower_of n t rows) (upper_of n t rows)) 4096 }
+    need_kept : Bool
+    need_kept = leb (need (add_all [] (reading_names n t rows)) n (lower_of n t rows) (upper_of n t rows)) 4096
 
-    list_kept : Condition
-    list_kept = record { number = list_lacks; kept = leb (length (rows_list n t rows)) 1536 }
-
-    go : (r : ℕ) → first_broken (need_kept ∷ list_kept ∷ []) ≡ r → Inside (list_said n (rows_list n t rows) r)
+    go : (r : ℕ) → list_refusal n t rows ≡ r → Inside (list_said n (rows_list n t rows) r)
     go zero z =
-        let few = leb-true (length (rows_list n t rows)) 1536
-        (first-kept list_kept [] (λ z. omega arith) (others_kept need_kept (list_kept ∷ []) (λ z. omega arith) z)) in
-        record { some = omega (arith, length_text n (rows_list n t rows)); fits = text_fits n (rows_list n t rows) h few }
+        let few = kept_first (leb (length (rows_list n t rows)) 1536) _ 7 (kept_first need_kept _ 6 z).1 in
+        record {
+          some = omega (arith, length_text n (rows_list n t rows));
+          fits = text_fits n (rows_list n t rows) h (leb-true (length (rows_list n t rows)) 1536 few.0);
+        }
     go (suc r) z = refused-inside (suc r) _
 
 candidate_inside : (n : ℕ) (t : Kind) (rows : List Row) (text : List ℕ) → n ≤ 16 → (r : ℕ) → Inside (candidate_said n t rows text r)

@@ -28,7 +28,7 @@ unfolding half constant joined but_not both either less always same within lead 
 meant = tt
 
 read : Unit {0}
-unfolding bytes is is_newline is_hash is_blank until put_byte split lines keep filled words fields all is_digit value_after is_number number digit decimal_of decimal is_sign read_sign columns_line output_line kind_line count_line signed_line is_cube read_cube row_line pair_line single_line meaning_of meaning is_end bytes_to_end after_end kind_of out_of row_of Outcome.start Outcome.with_columns Outcome.with_output Outcome.with_kind Outcome.with_count Outcome.with_row Outcome.allows_columns Outcome.allows_kind Outcome.allows_out Outcome.first Outcome.legal Outcome.step Outcome.complete Outcome.finish Outcome.put_row Outcome.add_row Outcome.follow Outcome.run Outcome.outcome is_good fault_line cubes_of read_conditions read_returns need_of contradictory function_conditions function_refusal function_returns Writing.sign_byte Writing.row_text Writing.rows_text Writing.joined Writing.text_parts Writing.list_text
+unfolding bytes is is_newline is_hash is_blank until put_byte split lines keep filled words fields all is_digit value_after is_number number digit decimal_of decimal is_sign read_sign columns_line output_line kind_line count_line signed_line is_cube read_cube row_line pair_line single_line meaning_of meaning is_end bytes_to_end after_end kind_of out_of row_of Outcome.start Outcome.with_columns Outcome.with_output Outcome.with_kind Outcome.with_count Outcome.with_row Outcome.allows_columns Outcome.allows_kind Outcome.allows_out Outcome.said Outcome.columns_are Outcome.first Outcome.legal Outcome.step Outcome.count_right Outcome.complete Outcome.kind_or_fd Outcome.end_with Outcome.finish Outcome.put_row Outcome.add_row Outcome.follow Outcome.run Outcome.outcome is_good fault_line cubes_of read_conditions read_returns need_of contradictory function_conditions function_refusal function_returns Writing.sign_byte Writing.row_text Writing.rows_text Writing.joined Writing.text_parts Writing.list_text
 read = tt
 
 pub examples_hold : all_hold examples ≡ true

@@ -10,32 +10,30 @@ use lib.Dec.{eqb, leb, ltb}
 use lib.ListN.{length, take, replicate, length-map, length-append}
 use lib.Seq.{take_at, length-take-le}
 use borrow.Author.Tests.{leb-true, ltb-true, ltb-false}
+use Rattle.std.specs.Prelude.{Result, Ok, Err}
 use Rattle.rule.specs.Func.{Fn}
 use Rattle.rule.specs.Number.{cube_number, first_malformed}
 use Rattle.rule.specs.Nodes.{need}
-use Rattle.rule.specs.Refusal.{Condition, first_broken, nodes_lack, list_lacks}
+use Rattle.rule.specs.Refusal.{first_broken, nodes_lack, list_lacks, number_of}
+use Rattle.rule.specs.declared.refusal.Refused.{Refused}
 use Rattle.rule.specs.Rule.{list_of, list_numbers}
 use Rattle.rule.proofs.Bools.{which}
 use Rattle.rule.proofs.Delivered.{list-formed}
 use Rattle.rule.proofs.Malformed.{none_malformed}
 use Rattle.graph.specs.Table.{table_of, functions}
-use Rattle.graph.proofs.Refusals.{first-kept, others_kept}
 use Rattle.graph.proofs.Roots.{past_input}
 use Rattle.line.specs.Decimal.{decimal}
 use Rattle.line.proofs.Decimal.{length_one, length_two, length_three, length_four}
-use Rattle.list.specs.Entry.{lower, upper, the_list, room_conditions, refusal, answer_for, changes_nothing, room_left, Generates}
-use Rattle.list.specs.declared.entry.Generated.{Generated}
-use Rattle.list.specs.declared.entry.Generated.TheVariants as made
+use Rattle.list.specs.Entry.{numbers_of, lower, upper, the_list, room_conditions, refusal, answer_for, numbers_for, changes_nothing, room_left, Generates}
 use Rattle.listmemo.proofs.Writing.{list-bound}
 use Rattle.text.specs.Writing.{list_text, room_by, room_written, Wrote}
-use Rattle.text.specs.declared.writing.Written.{Written}
-use Rattle.text.specs.declared.writing.Written.TheVariants as written
 use Rattle.text.proofs.Written.{length_text, all-kept, fitting}
 use Rattle.desk.specs.Said.{refused_text}
 use Rattle.desk.specs.Answer.{answer_by, rows_list, list_refusal, list_said, list_answer, answer_room}
-use Rattle.desk.specs.Judged.{Says}
-use Rattle.desk.specs.Contract.{Ready}
-use Rattle.desk.proofs.Reading.{ReadRows}
+use Rattle.desk.specs.Judged.{refusal_text, Says}
+use Rattle.desk.specs.Contract.{Fits, IsZero, Ready}
+use Rattle.desk.specs.declared.rooms.Rooms.{Rooms}
+use Rattle.desk.proofs.Reading.{kept_first, ReadRows}
 use Rattle.desk.proofs.Prepared.{ready_of, input_kept}
 
 -- A list of at most 1,536 cubes fits the answer room.
@@ -91,75 +89,60 @@ module _ {n c : ℕ} {v l h : List ℕ} {a b : ℕ} {list answer : List ℕ} (r 
   unfolding the_list
   small = list_small n L U r.roots.sound.columns
 
-  module _ {v' l' h' list' : List ℕ} {g : Generated} (p : Generates n c v l h a b list v' l' h' list' g) where
+  module _ {c' : ℕ} {v' l' h' list' : List ℕ} {g : Result ℕ Refused} (p : Generates n c v l h a b list c' v' l' h' list' g) where
     -- At a refusal.
-    module _ {q x : ℕ} (e : g ≡ made.Refused q x) where
-      answered : (k : ℕ) → refused ≡ k → (refused_text q x ≡ list_said n xs k) × (x ≤ 43046721)
+    module _ {f : Refused} (e : g ≡ Err f) where
+      told : (number_of f.refusal ≡ refused) × (f.returned ≡ cond (eqb refused list_lacks) (length xs) 0)
+      unfolding numbers_of numbers_for
+      told = let i = ap numbers_of (sym e) ∙ p.numbers in (ap (λ k. k.refusal) i, ap (λ k. k.returned) i)
+
+      said : (k : ℕ) → refused ≡ k → refused_text refused (cond (eqb refused list_lacks) (length xs) 0) ≡ list_said n xs k
       unfolding answer_for list_said
-      answered zero z =
-          let f : made.Refused q x ≡ made.Done (length xs) = sym e ∙ p.answer ∙ ap (answer_for n c v l h a b list) z in
-          let y : ◌≡◌ {A = ℕ} 0 1 = cc in
-          let w : ⊥ = omega arith in
-          absurd w
-      answered (suc k) z =
-          let f : made.Refused q x ≡ made.Refused (suc k) (cond (eqb (suc k) list_lacks) (length xs) 0) = sym e ∙ p.answer ∙ ap (answer_for n c v l h a b list) z in
-          let i : q ≡ suc k = cc in
-          let j : x ≡ cond (eqb (suc k) list_lacks) (length xs) 0 = cc in (ap₂ refused_text i j, subst⁻¹ (λ y. y ≤ 43046721) j (bound (eqb (suc k) list_lacks)))
+      said zero z = let i = sym e ∙ p.answer ∙ ap (answer_for n c v l h a b list) z in absurd (cc)
+      said (suc k) z = ap (λ q. refused_text q (cond (eqb q list_lacks) (length xs) 0)) z
+
+      pub list-refused : refusal_text f ≡ list_said n xs refused
+      unfolding refusal_text
+      list-refused = ap₂ refused_text told.0 told.1 ∙ said refused refl
+
+      pub length_small : f.returned ≤ 43046721
+      length_small = subst⁻¹ (λ y. y ≤ 43046721) told.1 (bound (eqb refused list_lacks))
         where
           bound : (t : Bool) → cond t (length xs) 0 ≤ 43046721
           bound true = small
           bound false = omega arith
 
-      pub list-refused : refused_text q x ≡ list_said n xs refused
-      list-refused = (answered refused refl).0
-
-      pub length_small : x ≤ 43046721
-      length_small = (answered refused refl).1
-
     -- Where the list was delivered.
-    module _ {k : ℕ} (e : g ≡ made.Done k) where
-      delivered : (q : ℕ) → refused ≡ q → (refused ≡ 0) × (k ≡ length xs)
-      unfolding answer_for
-      delivered zero z =
-          let f : made.Done k ≡ made.Done (length xs) = sym e ∙ p.answer ∙ ap (answer_for n c v l h a b list) z in (z, cc)
-      delivered (suc q) z =
-          let f : made.Done k ≡ made.Refused (suc q) (cond (eqb (suc q) list_lacks) (length xs) 0) = sym e ∙ p.answer ∙ ap (answer_for n c v l h a b list) z in
-          let y : ◌≡◌ {A = ℕ} 0 1 = cc in
-          let w : ⊥ = omega arith in
-          absurd w
-
+    module _ {k : ℕ} (e : g ≡ Ok k) where
       none : refused ≡ 0
-      none = (delivered refused refl).0
+      unfolding numbers_of numbers_for
+      none = sym (ap (λ m. m.refusal) (ap numbers_of (sym e) ∙ p.numbers))
+
+      long : k ≡ length xs
+      unfolding answer_for
+      long = let i = sym e ∙ p.answer ∙ ap (answer_for n c v l h a b list) none in cc
 
       fits : length xs ≤ 1536
-      unfolding room_conditions
+      unfolding room_conditions first_broken
       fits =
-          let q = sym by_rooms ∙ none in
-          let need_kept : Condition = record { number = nodes_lack; kept = leb (need (functions n (table_of v l h) c) n L U) (length v) } in
-          let list_kept : Condition = record { number = list_lacks; kept = leb (length xs) (length list) } in
-          omega (
-            arith,
-            leb-true (length xs) (length list) (first-kept list_kept [] (λ z. omega arith) (others_kept need_kept (list_kept ∷ []) (λ z. omega arith) q)),
-            r.cubes,
-          )
+          let q = kept_first (leb (need (functions n (table_of v l h) c) n L U) (length v)) _ 6 (sym by_rooms ∙ none) in
+          omega (arith, leb-true (length xs) (length list) (kept_first (leb (length xs) (length list)) _ 7 q.1).0, r.cubes)
 
       room-is : list' ≡ xs ++ replicate (length list - length xs) 0
       unfolding room_left changes_nothing
       room-is = p.list ∙ ap (room_left n c v l h a b list) none
 
       pub stands : take k list' ≡ xs
-      stands =
-          ap (take k) room-is ∙ take_at xs (replicate (length list - length xs) 0) k (sym (delivered refused refl).1)
+      stands = ap (take k) room-is ∙ take_at xs (replicate (length list - length xs) 0) k (sym long)
 
       pub stands_inside : k ≤ length list'
-      stands_inside =
-          omega (arith, (delivered refused refl).1, ap length room-is, length-append xs (replicate (length list - length xs) 0))
+      stands_inside = omega (arith, long, ap length room-is, length-append xs (replicate (length list - length xs) 0))
 
       pub stands_long : k ≡ length (take k list')
       stands_long = sym (length-take-le k list' stands_inside)
 
       -- The text is written, and never refused.
-      module _ {answer' : List ℕ} {w : Written} (q : Wrote n (take k list') answer answer' w) where
+      module _ {answer' : List ℕ} {w : Result ℕ Refused} (q : Wrote n (take k list') answer answer' w) where
         fit : length (list_text n xs) ≤ length answer
         fit = omega (arith, text_fits n xs r.roots.sound.columns fits, r.bytes)
 
@@ -167,43 +150,43 @@ module _ {n c : ℕ} {v l h : List ℕ} {a b : ℕ} {list answer : List ℕ} (r 
         unfolding the_list
         formed = none_malformed n xs (list-formed n L U r.roots.sound.columns)
 
-        written_is : w ≡ written.Done (length (list_text n xs))
-        written_is =
-            let t : Wrote n xs answer answer' w = subst (λ ys. Wrote n ys answer answer' w) stands q in
-            t.answer ∙ sym (fitting n xs (length answer) r.some r.roots.sound.columns (omega (arith, fits)) formed fit)
+        wrote : Wrote n xs answer answer' w
+        wrote = subst (λ ys. Wrote n ys answer answer' w) stands q
 
-        pub list-said : {past : ℕ} → w ≡ written.Done past → Says (list_said n xs refused) answer answer' past
+        written_is : w ≡ Ok (length (list_text n xs))
+        written_is =
+            wrote.answer ∙ sym (fitting n xs (length answer) r.some r.roots.sound.columns (omega (arith, fits)) formed fit)
+
+        pub list-said : {past : ℕ} → w ≡ Ok past → Says (list_said n xs refused) answer answer' past
         unfolding list_said room_written room_by
         list-said {past} f =
-            let t : Wrote n xs answer answer' w = subst (λ ys. Wrote n ys answer answer' w) stands q in
-            let i : written.Done past ≡ written.Done (length (list_text n xs)) = sym f ∙ written_is in
-            let j : past ≡ length (list_text n xs) = cc in
+            let i = sym f ∙ written_is in
             let whole : Says (list_text n xs) answer answer' past = record {
-              count = j;
-              left = t.left ∙ ap (λ y. room_by y n xs answer) (all-kept n xs (length answer) r.some r.roots.sound.columns (omega (arith, fits)) formed fit);
+              count = cc;
+              left = wrote.left ∙ ap (λ y. room_by y n xs answer) (all-kept n xs (length answer) r.some r.roots.sound.columns (omega (arith, fits)) formed fit);
             } in
             subst⁻¹ (λ y. Says (list_said n xs y) answer answer' past) none whole
 
-        pub never_refused : {x y : ℕ} → w ≡ written.Refused x y → ⊥
-        never_refused {x} {y} f =
-            let i : written.Refused x y ≡ written.Done (length (list_text n xs)) = sym f ∙ written_is in
-            let j : ◌≡◌ {A = ℕ} 0 1 = cc in
-            omega arith
+        pub never_refused : {f : Refused} → w ≡ Err f → ⊥
+        never_refused f = let i = sym f ∙ written_is in cc
 
 -- What is said of the rows that were read.
-pub rows-listed : {input v l h : List ℕ} {n c a b : ℕ} (list answer : List ℕ) → ReadRows input v l h n c a b → length list ≡ 1536
-    → answer_room ≤ length answer → list_said n (the_list n c v l h a b list) (refusal n c v l h a b list) ≡ list_answer input
+pub rows-listed : {input v l h : List ℕ} {n c a b : ℕ} {rooms : Rooms} (answer : List ℕ) → IsZero rooms → ReadRows input v l h n c a b → Fits answer
+    → list_said n (the_list n c v l h a b rooms.list) (refusal n c v l h a b rooms.list) ≡ list_answer input
 unfolding list_answer answer_by the_list lower upper rows_list room_conditions list_refusal
-rows-listed {input} {v} {l} {h} {n} {c} {a} {b} list answer r e f =
+rows-listed {input} {v} {l} {h} {n} {c} {a} {b} {rooms} answer z r f =
     ap₂ (list_said n) the-list the_refusal ∙
     ap₂ (λ q w. answer_by input q w (λ n t rows. list_said n (rows_list n t rows) (list_refusal n t rows))) (sym r.kept) (sym r.told)
   where
-    the-list : the_list n c v l h a b list ≡ rows_list n r.kind r.rows
+    ready : Ready n c v l h a b rooms.list answer
+    ready = ready_of z r f
+
+    the-list : the_list n c v l h a b rooms.list ≡ rows_list n r.kind r.rows
     the-list = ap₂ (list_numbers n) r.on.means r.on_or_dc.means
 
-    the_refusal : refusal n c v l h a b list ≡ list_refusal n r.kind r.rows
+    the_refusal : refusal n c v l h a b rooms.list ≡ list_refusal n r.kind r.rows
     the_refusal =
-        by_rooms {answer = answer} (ready_of r e f) ∙
+        by_rooms ready ∙
         (λ i. first_broken (
         record { number = nodes_lack; kept = leb (need (r.adds i) n (r.on.means i) (r.on_or_dc.means i)) (r.level i) } ∷
-        record { number = list_lacks; kept = leb (length (list_numbers n (r.on.means i) (r.on_or_dc.means i))) (e i) } ∷ []))
+        record { number = list_lacks; kept = leb (length (list_numbers n (r.on.means i) (r.on_or_dc.means i))) (ready.cubes i) } ∷ []))

@@ -1,24 +1,25 @@
 -- What a candidate keeps: as many signs in each row as columns are asked for, so that its cubes are well formed, and no more rows
 -- than bytes; and the line of any text's fault is at most one more than its bytes.
-use mathlib.Core.Path.{◌≡◌, refl, ◌∙◌, subst}
-use mathlib.Core.Bool.{Bool, true, false, cond, not, ◌&&◌, ◌||◌}
+use mathlib.Core.Path.{◌≡◌, refl, sym, ap, ◌∙◌, subst}
+use mathlib.Core.Bool.{Bool, true, false, cond, ◌&&◌, ◌||◌}
 use mathlib.Core.List.{List, [], ◌∷◌}
 use mathlib.Core.Logic.{◌⊎◌, inl, inr}
 use Prim.Native.Nat.{ℕ, suc, ◌+◌, ◌<◌, ◌≤◌}
 use native.Mathlib.Omega.{arith}
 use lib.Dec.{eqb}
 use lib.ListN.{length, length-map}
-use borrow.Author.Tests.{eqb-true, eqb-false}
+use borrow.Author.Tests.{eqb-true}
+use Rattle.std.specs.Prelude.{Option, Some, None}
 use Rattle.rule.specs.Number.{cube_number}
 use Rattle.rule.specs.Rows as Rows
-use Rattle.rule.proofs.Bools.{and_left, and_right, or_true, not_is_true}
+use Rattle.rule.proofs.Bools.{clash, and_left, and_right, or_true}
 use Rattle.rule.proofs.Delivered.{AllFormed}
 use Rattle.rule.proofs.Number.{length-signs, well_formed-cube_number}
 use Rattle.line.specs.Bytes.{is_newline, put_byte, split, lines}
 use Rattle.line.specs.Meaning.{meaning, kind_of, row_of}
 use Rattle.line.specs.declared.meaning.Line.{Line}
 use Rattle.line.specs.declared.meaning.Line.TheVariants.{Empty, Columns, Output, Typed, Count, Row, End, Bad}
-use Rattle.text.specs.Outcome.{Outcome, good, fault, start, with_columns, with_output, with_kind, with_count, with_row, allows_columns, allows_out, first, legal, step, complete, finish, put_row, add_row, follow, run, outcome}
+use Rattle.text.specs.Outcome.{Outcome, good, fault, start, with_columns, with_output, with_kind, with_count, with_row, said, columns_are, allows_columns, allows_out, first, legal, step, complete, kind_or_fd, end_with, finish, put_row, add_row, follow, run, outcome}
 use Rattle.text.specs.Candidate.{cubes_of, fault_line}
 use Rattle.text.specs.declared.judge.State.{State}
 use Rattle.text.specs.declared.judge.Step.{Step}
@@ -53,7 +54,7 @@ FineIn asked j (fault k) = Unit {0}
 
 -- The columns said so far are those asked for, and a row has as many signs.
 abbrev Asked : ℕ → State → Type 0
-Asked asked s = 0 < asked → (s.columns ≡ 0) ⊎ (s.columns ≡ asked)
+Asked asked s = 0 < asked → (s.columns ≡ None) ⊎ (s.columns ≡ Some asked)
 
 abbrev RowAsked : ℕ → Line → Type 0
 RowAsked asked Empty = Unit {0}
@@ -71,44 +72,47 @@ Leads asked l s = Asked asked s × RowAsked asked l
 legal-on : (q : Bool) (t s : State) → legal q t ≡ On s → (q ≡ true) × (t ≡ s)
 unfolding legal
 legal-on true t s e = (refl, cc)
-legal-on false t s e = let x : ◌≡◌ {A = ℕ} 0 1 = cc in let y : ⊥ = omega arith in absurd y
+legal-on false t s e = absurd (cc)
+
+these_columns : (c : Option ℕ) (n : ℕ) → columns_are c n ≡ true → c ≡ Some n
+unfolding columns_are
+these_columns (Some k) n e = ap Some (sym (eqb-true n k e))
+these_columns None n e = clash e refl
 
 leads : (asked : ℕ) (s s' : State) (l : Line) → Asked asked s → step asked s l ≡ On s' → Leads asked l s'
 unfolding step with_columns with_output with_kind with_count with_row allows_columns
 leads asked s s' Empty i e = let q : s ≡ s' = cc in (subst (Asked asked) q i, tt)
 leads asked s s' (Columns n) i e =
     let q = legal-on _ _ s' e in
-    let a = and_right (first s (not (eqb s.columns 0))) (eqb asked 0 || eqb n asked) q.0 in
-    (subst (Asked asked) q.1 (λ h. said h (or_true (eqb asked 0) (eqb n asked) a)), tt)
+    let a = and_right (first s (said s.columns)) (eqb asked 0 || eqb n asked) q.0 in
+    (subst (Asked asked) q.1 (λ h. these h (or_true (eqb asked 0) (eqb n asked) a)), tt)
   where
-    said : 0 < asked → (eqb asked 0 ≡ true) ⊎ (eqb n asked ≡ true) → (n ≡ 0) ⊎ (n ≡ asked)
-    said h (inl z) = let x : ⊥ = omega (arith, eqb-true asked 0 z) in absurd x
-    said h (inr z) = inr (eqb-true n asked z)
+    these : 0 < asked → (eqb asked 0 ≡ true) ⊎ (eqb n asked ≡ true) → (Some n ≡ None) ⊎ (Some n ≡ Some asked)
+    these h (inl z) = let x : ⊥ = omega (arith, eqb-true asked 0 z) in absurd x
+    these h (inr z) = inr (ap Some (eqb-true n asked z))
 leads asked s s' Output i e = (subst (Asked asked) (legal-on _ _ s' e).1 i, tt)
 leads asked s s' (Typed t) i e = (subst (Asked asked) (legal-on _ _ s' e).1 i, tt)
 leads asked s s' (Count n) i e = (subst (Asked asked) (legal-on _ _ s' e).1 i, tt)
 leads asked s s' (Row n x o) i e =
     let q = legal-on _ _ s' e in
-    let a = not (eqb s.columns 0) && s.output in
-    let b = eqb n s.columns in
-    let ab = and_left (a && b) (allows_out asked o) q.0 in
-    let same = eqb-true n s.columns (and_right a b ab) in
-    let given = eqb-false s.columns 0 (not_is_true (eqb s.columns 0) (and_left (not (eqb s.columns 0)) s.output (and_left a b ab))) in
-    (subst (Asked asked) q.1 i, λ h. signs same given (i h))
+    let b = columns_are s.columns n in
+    let c = these_columns s.columns n (and_right s.output b (and_left (s.output && b) (allows_out asked o) q.0)) in
+    (subst (Asked asked) q.1 i, λ h. signs c (i h))
   where
-    signs : n ≡ s.columns → (s.columns ≡ 0 → ⊥) → (s.columns ≡ 0) ⊎ (s.columns ≡ asked) → n ≡ asked
-    signs e z (inl w) = absurd (z w)
-    signs e z (inr w) = e ∙ w
-leads asked s s' End i e = let x : ◌≡◌ {A = ℕ} 0 1 = cc in let y : ⊥ = omega arith in absurd y
-leads asked s s' Bad i e = let x : ◌≡◌ {A = ℕ} 0 1 = cc in let y : ⊥ = omega arith in absurd y
+    signs : s.columns ≡ Some n → (s.columns ≡ None) ⊎ (s.columns ≡ Some asked) → n ≡ asked
+    signs c (inl w) = absurd (cc)
+    signs c (inr w) = cc
+leads asked s s' End i e = absurd (cc)
+leads asked s s' Bad i e = absurd (cc)
 
 fine_end : (asked j : ℕ) (s : State) (k : ℕ) → FineIn asked j (finish s k)
-unfolding finish AllSized
-fine_end asked j s k = go (complete s)
+unfolding finish end_with AllSized
+fine_end asked j s k =
+    elim s.columns as (λ c. FineIn asked j (end_with c s k)) [ Some n ↦ go n (complete s) | None ↦ tt ]
   where
-    go : (q : Bool) → FineIn asked j (cond q (good s.columns (kind_of s.kind) []) (fault k))
-    go true = record { few = omega arith; sized = λ h. tt }
-    go false = tt
+    go : (n : ℕ) (q : Bool) → FineIn asked j (cond q (good n (kind_of (kind_or_fd s.kind)) []) (fault k))
+    go n true = record { few = omega arith; sized = λ h. tt }
+    go n false = tt
 
 fine_put : (asked j n x : ℕ) (o : _) (w : Outcome) → (0 < asked → n ≡ asked) → FineIn asked j w → FineIn asked (suc j) (put_row (row_of n x o) w)
 unfolding put_row row_of AllSized

@@ -1,12 +1,12 @@
 -- A function that was read is fit for the generator and the checker: what they ask of the input is kept.
-use mathlib.Core.Path.{◌≡◌, ap₂, ◌∙◌}
+use mathlib.Core.Path.{◌≡◌, ap, ap₂, ◌∙◌}
 use mathlib.Core.Bool.{true, not, ◌&&◌}
 use mathlib.Core.List.{List}
 use mathlib.Core.Logic.{◌⊎◌, inl, inr}
 use Prim.Native.Nat.{ℕ, ◌+◌, ◌-◌, ◌≤◌, ◌<◌}
 use native.Mathlib.Omega.{arith}
 use lib.Dec.{ltb}
-use lib.ListN.{length}
+use lib.ListN.{length, length-replicate}
 use borrow.Author.Tests.{le-leb, lt-leb, lt-ltb, ltb-true}
 use Rattle.rule.specs.Func.{within}
 use Rattle.rule.specs.Refusal.{first_broken}
@@ -17,7 +17,8 @@ use Rattle.graph.proofs.Entries.{both_in}
 use Rattle.graph.proofs.Roots.{good_input}
 use Rattle.desk.specs.Answer.{answer_room, Answers}
 use Rattle.desk.specs.Judged.{Says}
-use Rattle.desk.specs.Contract.{Ready}
+use Rattle.desk.specs.Contract.{Fits, IsZero, Ready}
+use Rattle.desk.specs.declared.rooms.Rooms.{Rooms}
 use Rattle.desk.proofs.Reading.{ReadRows}
 
 -- A number in use is in range.
@@ -31,15 +32,15 @@ in-range T c x e = go (or_true (ltb x 2) (ltb (x - 2) c && not (ltb (T.level (x 
         let s : x - 2 < c = ltb-true (x - 2) c (and_left (ltb (x - 2) c) (not (ltb (T.level (x - 2)) 0)) u) in
         lt-ltb x (c + 2) (omega arith)
 
-pub ready_of : {input v l h list answer : List ℕ} {n c a b : ℕ} → ReadRows input v l h n c a b → length list ≡ 1536
-    → answer_room ≤ length answer → Ready n c v l h a b list answer
-ready_of {n = n} r e f =
+pub ready_of : {input v l h answer : List ℕ} {n c a b : ℕ} {rooms : Rooms} → IsZero rooms → ReadRows input v l h n c a b → Fits answer
+    → Ready n c v l h a b rooms.list answer
+ready_of {n = n} z r f =
     record {
       some = r.some;
       roots = record { sound = r.sound; column = omega arith; first = r.on.number; second = r.on_or_dc.number };
       inside = ap₂ (within n) r.on.means r.on_or_dc.means ∙ r.inside;
       level = r.level;
-      cubes = e;
+      cubes = ap length z.list ∙ length-replicate {A = ℕ} 1536 0;
       bytes = f;
     }
 

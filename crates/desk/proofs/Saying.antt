@@ -1,99 +1,90 @@
--- Lines said: numbers and points put digit by digit, and the parts of a line with its end and zeros past it.
+-- Lines said: a point's digits put column by column, and the parts of a line with its end and zeros past it.
 use mathlib.Core.Path.{◌≡◌, refl, sym, ap, ap₂, ◌∙◌, subst}
 use mathlib.Core.List.{List, [], ◌∷◌, ◌++◌, append_assoc, append-nil}
-use Prim.Native.Nat.{ℕ, zero, suc, ◌+◌, ◌-◌, ◌/◌, ◌%◌, ◌^◌, ◌<◌, ◌≤◌}
+use Prim.Native.Nat.{ℕ, zero, suc, ◌+◌, ◌-◌, ◌/◌, ◌%◌, ◌<◌, ◌≤◌}
 use native.Mathlib.Omega.{arith}
-use lib.ListN.{length, set, length-append}
-use lib.Seq.{sets}
-use borrow.Author.Tests.{lt-ltb, le-ltb}
+use lib.ListN.{length, length-append}
+use Rattle.std.specs.Prelude.{Err}
 use Rattle.rule.specs.Point.{bit, odd, digits}
 use Rattle.rule.proofs.Points.{put-odd}
 use Rattle.line.specs.Bytes.{bytes}
-use Rattle.line.specs.Decimal.{digit, decimal_of}
-use Rattle.line.proofs.Decimal.{more_room, length_most}
-use Rattle.text.specs.Room.{cleared, Put}
+use Rattle.line.specs.Decimal.{digit}
+use Rattle.checker.specs.Judging.{Judged}
+use Rattle.checker.specs.declared.fault.Fault.{Fault}
+use Rattle.text.specs.Room.{Put}
+use Rattle.text.specs.Writer.{ClearedIn}
 use Rattle.text.specs.Writing.{joined}
-use Rattle.text.proofs.Room.{put_then, put-kept, sets_one}
+use Rattle.text.specs.declared.writer.Writer.{Writer}
+use Rattle.text.proofs.Numerals as Numerals
+use Rattle.text.proofs.Room.{Left, all_left, left-put, none_left, put_then, put-kept}
 use Rattle.text.proofs.Written.{put-padded}
 use Rattle.desk.specs.Said.{numeral, point_text}
-use Rattle.desk.specs.Judged.{Says}
-
--- A number below ten is one digit, a greater one its tenth's digits and its last one.
-numeral_one : (n : ℕ) → n < 10 → numeral n ≡ digit n ∷ []
-unfolding numeral decimal_of
-numeral_one n h = rw (lt-ltb n 10 h)
-
-numeral-more : (n : ℕ) → 10 ≤ n → n < 4294967296 → numeral n ≡ numeral (n / 10) ++ (digit (n % 10) ∷ [])
-unfolding numeral decimal_of
-numeral-more n h b =
-    let c : n / 10 < 10 ^ 9 = omega arith in
-    rw (le-ltb n 10 h) (ap (λ t. t ++ (digit (n % 10) ∷ [])) (more_room 8 (n / 10) c))
+use Rattle.desk.specs.Judged.{judged_text, Says}
 
 pub length-numeral : (n : ℕ) → length (numeral n) ≤ 10
 unfolding numeral
-length-numeral n = length_most 9 n
+length-numeral n = Numerals.length-numeral n
 
-pub one_digit : (n : ℕ) → n < 10 → length (numeral n) ≡ 1
-one_digit n h = ap length (numeral_one n h)
-
-pub digit-more : (n : ℕ) → 10 ≤ n → n < 4294967296 → length (numeral n) ≡ length (numeral (n / 10)) + 1
-digit-more n h b = ap length (numeral-more n h b) ∙ length-append (numeral (n / 10)) (digit (n % 10) ∷ [])
-
-pub put_one : (room : List ℕ) (i n : ℕ) → n < 10 → Put room i (numeral n) (set room i (48 + n)) (i + 1)
-unfolding digit
-put_one room i n h =
-    record { stored = sym (ap (sets room i) (numeral_one n h)); next = ap (λ w. i + length w) (sym (numeral_one n h)) }
-
-pub put_last : {room room' : List ℕ} {i r n : ℕ} → 10 ≤ n → n < 4294967296 → Put room i (numeral (n / 10)) room' r
-    → Put room i (numeral n) (set room' r (48 + n % 10)) (r + 1)
-unfolding digit
-put_last {room} {room'} {i} {r} {n} h b p =
-    subst (λ w. Put room i w (set room' r (48 + n % 10)) (r + 1)) (sym (numeral-more n h b))
-    (put_then p (record { stored = refl; next = refl }))
-
--- A point's digits: one column more is stored, and none is left; there is one for each column.
-column-digit : (p : ℕ) → digit (bit (odd p)) ≡ 48 + p % 2
-unfolding digit
-column-digit p = omega (arith, put-odd p)
-
-pub next-column : (room : List ℕ) (i left p : ℕ) → 0 < left
-    → sets room i (point_text left p) ≡ sets (set room i (48 + p % 2)) (i + 1) (point_text (left - 1) (p / 2))
-unfolding point_text digits
-next-column room i zero p h = let x : ⊥ = omega arith in absurd x
-next-column room i (suc m) p h =
-    let k : suc m - 1 ≡ m = omega arith in
-    sets_one room i (digit (bit (odd p))) (point_text m (p / 2)) ∙
-    ap₂ (λ b l. sets (set room i b) (i + 1) (point_text l (p / 2))) (column-digit p) (sym k)
-
-pub no_column : (room : List ℕ) (i left p : ℕ) → left ≤ 0 → sets room i (point_text left p) ≡ room
-unfolding point_text digits
-no_column room i zero p h = refl
-no_column room i (suc m) p h = let x : ⊥ = omega arith in absurd x
-
+-- A point's digits: there is one for each column, the first column's first.
 pub length_point : (n p : ℕ) → length (point_text n p) ≡ n
 unfolding point_text digits
 length_point zero p = refl
 length_point (suc n) p = ap suc (length_point n (p / 2))
 
+column-digit : (p : ℕ) → digit (bit (odd p)) ≡ 48 + p % 2
+unfolding digit
+column-digit p = omega (arith, put-odd p)
+
+pub next-column : (left p : ℕ) → 0 < left → point_text left p ≡ ((48 + p % 2) ∷ []) ++ point_text (left - 1) (p / 2)
+unfolding point_text digits
+next-column zero p h = let x : ⊥ = omega arith in absurd x
+next-column (suc m) p h =
+    let k : m ≡ suc m - 1 = omega arith in
+    ap₂ (λ b l. b ∷ point_text l (p / 2)) (column-digit p) k
+
+-- At first all columns are left, then one less, and at last none.
+pub all_columns : (room : List ℕ) (i n p : ℕ) → i + n ≤ length room → Left room i (point_text n p) room i (point_text (n - 0) p)
+all_columns room i n p h =
+    let k : n - 0 ≡ n = omega arith in
+    rw k (all_left room i (point_text n p) (omega (arith, length_point n p)))
+
+module _ {room whole room' : List ℕ} {i r : ℕ} (left p : ℕ) (l : Left room i whole room' r (point_text left p)) where
+  pub column_fits : 0 < left → r < length room'
+  column_fits h = omega (arith, l.fits, length_point left p)
+
+  pub column_put : {room'' : List ℕ} {s : ℕ} → (k : ℕ) → Put room' r ((48 + p % 2) ∷ []) room'' s → left ≡ k + 1
+      → Left room i whole room'' s (point_text k (p / 2))
+  column_put {room''} {s} k q e =
+      let g : left - 1 ≡ k = omega arith in
+      let t : Left room i whole room'' s (point_text (left - 1) (p / 2)) =
+      left-put (point_text (left - 1) (p / 2)) (rw (next-column left p (omega arith)) at l) q
+      in
+      rw g at t
+
+  pub no_column : left ≡ 0 → Put room i whole room' r
+  unfolding point_text digits
+  no_column e = none_left (rw e at l)
+
 -- The end of a line.
-pub line_ended : {old w room room' room'' : List ℕ} {i r : ℕ} → Put old 0 w room i → Put room i (bytes "\n") room' r
-    → room'' ≡ cleared r room' → i < length room → Says (w ++ bytes "\n") old room'' r
+pub line_ended : {old w room : List ℕ} {i : ℕ} {ended cleared : Writer} → Put old 0 w room i → Put room i (bytes "\n") ended.room.now ended.at
+    → ClearedIn ended cleared → i < length room → Says (w ++ bytes "\n") old cleared.room.now cleared.at
 unfolding bytes
 line_ended {w = w} p q e h =
     let all = put_then p q in
     record {
-      count = omega (arith, all.next);
-      left = e ∙ put-padded all (w ++ bytes "\n") refl (omega (arith, length-append w (bytes "\n"), put-kept p, p.next));
+      count = omega (arith, all.next, e.place);
+      left = e.room ∙ put-padded all (w ++ bytes "\n") refl (omega (arith, length-append w (bytes "\n"), put-kept p, p.next));
     }
 
--- The parts of a line, as they are put one after the other.
 pub said_as : {w w' room room' : List ℕ} {r : ℕ} → Says w room room' r → w ≡ w' → Says w' room room' r
 said_as {room = room} {room' = room'} {r = r} s e = subst (λ u. Says u room room' r) e s
 
-pub two_parts : (a b : List ℕ) → a ++ b ≡ joined (a ∷ b ∷ [])
-unfolding joined
-two_parts a b = simp (append_assoc, append-nil)
+-- What is said of a fault is said of the verdict that has it.
+pub fault_said : (n : ℕ) {r : ℕ} {room room' : List ℕ} {v : Judged} {f g : Fault} → v ≡ Err f → f ≡ g → Says (judged_text n (Err g)) room room' r
+    → Says (judged_text n v) room room' r
+fault_said n e h s = said_as s (ap (λ k. judged_text n (Err k)) (sym h) ∙ ap (judged_text n) (sym e))
 
+-- The parts of a line, as they are put one after the other.
 pub three_parts : (a b c : List ℕ) → a ++ b ++ c ≡ joined (a ∷ b ∷ c ∷ [])
 unfolding joined
 three_parts a b c = simp (append_assoc, append-nil)

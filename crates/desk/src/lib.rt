@@ -3,4 +3,5 @@
 
 pub mod checks;
 pub mod lists;
+pub mod rooms;
 pub mod said;

@@ -1,61 +1,60 @@
 // The first program: the list of a function text, or a refusal.
-ghost use Rattle.list.specs.Entry.{the_list, refusal};
-ghost use Rattle.desk.specs.Answer.{list_said, list_answer, Answers};
+ghost use Rattle.graph.specs.Lent.{SameSlices};
+ghost use Rattle.desk.specs.Answer.{list_answer, Answers};
 ghost use Rattle.desk.specs.Judged.{Says};
-ghost use Rattle.desk.specs.Contract.{Rooms, Ready};
+ghost use Rattle.desk.specs.Contract.{IsZero, ReadyIn, list_said_of, Fits};
 
+use crate::rooms::Rooms;
 use crate::said;
+use graph::build::TableMut;
 use list::entry;
-use list::entry::Generated;
-use text::function::Function;
-use text::writing::Written;
 use text::{function, writing};
 
 // The list for a lower and an upper root, or its refusal.
 fn say_list(
-    columns: u16,
-    level: &mut [u16],
-    low: &mut [u16],
-    high: &mut [u16],
-    count: usize,
+    table: &mut TableMut<'_>,
     lower: u16,
     upper: u16,
     list: &mut [u32],
     answer: &mut [u8],
 ) -> usize
-    requires { Ready columns count level.old low.old high.old lower upper list.old answer.old }
-    ensures { Says (list_said columns (the_list columns count level.old low.old high.old lower upper list.old) (refusal columns count level.old low.old high.old lower upper list.old)) answer.old answer.new result }
+    requires { ReadyIn table.old lower upper list.old answer.old }
+    ensures same { SameSlices table.old table.new }
+    ensures says { Says (list_said_of table.old lower upper list.old) answer.old answer.new result }
 {
-    let made = entry::generate(columns, level, low, high, count, lower, upper, list);
-    match made {
-        Generated::Refused(number, value) => said::say_refused(answer, number, value as u32),
-        Generated::Done(length) => {
-            let told = writing::write_list(columns, &list[..length], answer);
-            match told {
-                Written::Done(past) => past,
-                Written::Refused(_, needed) => needed,
-            }
-        }
+    match entry::generate(table, lower, upper, list) {
+        Err(refused) => said::say_refused(answer, refused),
+        Ok(length) => match writing::write_list(table.columns, &list[..length], answer) {
+            Ok(written) => written,
+            Err(refused) => refused.returned,
+        },
     }
 }
 
 // The answer, in lent rooms.
-fn list_in(
-    input: &[u8],
-    level: &mut [u16],
-    low: &mut [u16],
-    high: &mut [u16],
-    list: &mut [u32],
-    answer: &mut [u8],
-) -> usize
-    requires { Rooms level.old low.old high.old list.old answer.old }
+fn list_in(input: &[u8], rooms: &mut Rooms, answer: &mut [u8]) -> usize
+    requires rooms { IsZero rooms.old }
+    requires answer { Fits answer.old }
     ensures { Says (list_answer input.now) answer.old answer.new result }
 {
-    let read = function::read_function(input, level, low, high);
+    let read = function::read_function(input, &mut rooms.level, &mut rooms.low, &mut rooms.high);
     match read {
-        Function::Refused(number, value) => said::say_refused(answer, number, value as u32),
-        Function::Done(columns, count, lower, upper) => {
-            say_list(columns, level, low, high, count, lower, upper, list, answer)
+        Err(refused) => said::say_refused(answer, refused),
+        Ok(function) => {
+            let mut table = TableMut {
+                columns: function.columns,
+                count: function.count,
+                level: &mut rooms.level,
+                low: &mut rooms.low,
+                high: &mut rooms.high,
+            };
+            say_list(
+                &mut table,
+                function.lower,
+                function.upper,
+                &mut rooms.list,
+                answer,
+            )
         }
     }
 }
@@ -68,9 +67,5 @@ pub fn list_answer(input: &[u8], answer: &mut [u8]) -> usize
     if answer.len() < 29206 {
         return 0;
     }
-    let mut level = [0u16; 4096];
-    let mut low = [0u16; 4096];
-    let mut high = [0u16; 4096];
-    let mut list = [0u32; 1536];
-    list_in(input, &mut level, &mut low, &mut high, &mut list, answer)
+    list_in(input, &mut Rooms::new(), answer)
 }

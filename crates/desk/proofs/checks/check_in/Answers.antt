@@ -8,15 +8,18 @@ use Rattle.desk.proofs.Prepared.{ready_of}
 use Rattle.desk.proofs.Checked.{rows_checked}
 use Rattle.desk.proofs.checks.check_in.Goals as goal
 
-pub overflow_cast-value : goal.overflow_cast-value
-overflow_cast-value c = omega (arith, value_small c.read_function-read.ensures c.requires.level c.requires.low c.requires.high c.in-Refused.is)
+pub say_refused-requires-clause-returned : goal.say_refused-requires-clause-returned
+say_refused-requires-clause-returned c = omega (arith, value_small c.requires.rooms c.read_function-read.ensures c.in-Err.is)
 
-pub say_verdict-requires : goal.say_verdict-requires
-say_verdict-requires c = let r = text_read c.read_function-read.ensures c.requires.level c.requires.low c.requires.high c.in-Done.is in (r.short, ready_of r c.requires.cubes c.requires.bytes)
+pub say_verdict-requires-clause-input : goal.say_verdict-requires-clause-input
+say_verdict-requires-clause-input c = (text_read c.requires.rooms c.read_function-read.ensures c.in-Ok.is).short
 
-pub returns-in-Refused : goal.returns-in-Refused
+pub say_verdict-requires-clause-ready : goal.say_verdict-requires-clause-ready
+say_verdict-requires-clause-ready c = ready_of c.requires.rooms (text_read c.requires.rooms c.read_function-read.ensures c.in-Ok.is) c.requires.answer
+
+pub returns-in-Err : goal.returns-in-Err
 unfolding check_answer
-returns-in-Refused c = said_as c.say_refused.ensures (text_refused c.read_function-read.ensures c.requires.level c.requires.low c.requires.high c.in-Refused.is _)
+returns-in-Err c = said_as c.say_refused.ensures (text_refused c.requires.rooms c.read_function-read.ensures c.in-Err.is _)
 
-pub returns-in-Done : goal.returns-in-Done
-returns-in-Done c = said_as c.say_verdict.ensures (rows_checked (text_read c.read_function-read.ensures c.requires.level c.requires.low c.requires.high c.in-Done.is))
+pub returns-in-Ok : goal.returns-in-Ok
+returns-in-Ok c = said_as c.say_verdict.ensures (rows_checked (text_read c.requires.rooms c.read_function-read.ensures c.in-Ok.is))

@@ -1,22 +1,36 @@
 -- `desk::checks::say_verdict` meets its contract: what `read_candidate` refuses is said, and on what it reads the verdict, which nothing
 -- refuses.
-use mathlib.Core.Path.{◌∙◌}
 use native.Mathlib.Omega.{arith}
 use Rattle.desk.proofs.Saying.{said_as}
-use Rattle.desk.proofs.Checked.{text_short, same_rest, candidate_refused, value_small, stands_inside, stands_long, candidate_judged}
+use Rattle.desk.proofs.Checked.{candidate_refused, value_small, stands_inside, stands_long, candidate_judged, never_refused}
 use Rattle.desk.proofs.checks.say_verdict.Goals as goal
 
-pub overflow_cast-value : goal.overflow_cast-value
-overflow_cast-value c = omega (arith, value_small c.requires.1 (text_short c.args.input.now c.requires.0 c.after_end-text.ensures) c.read_candidate-read.ensures c.in-Refused.is)
+pub say_refused-requires-clause-returned : goal.say_refused-requires-clause-returned
+say_refused-requires-clause-returned c =
+    omega (arith, value_small c.args.input.now c.requires.ready c.requires.input c.after_end.ensures c.read_candidate.ensures c.in-Err.is)
 
 pub slice_bounds-check-end : goal.slice_bounds-check-end
-slice_bounds-check-end c = stands_inside c.requires.1 (text_short c.args.input.now c.requires.0 c.after_end-text.ensures) c.read_candidate-read.ensures c.in-Done.is
+slice_bounds-check-end c =
+    stands_inside c.args.input.now c.requires.ready c.requires.input c.after_end.ensures c.read_candidate.ensures c.in-Ok.is
 
-pub slice_bounds-check-end-in-Done : goal.slice_bounds-check-end-in-Done
-slice_bounds-check-end-in-Done c = stands_long c.requires.1 (text_short c.args.input.now c.requires.0 c.after_end-text.ensures) c.read_candidate-read.ensures c.in-Done.is
+pub slice_bounds-check-end-in-Ok : goal.slice_bounds-check-end-in-Ok
+slice_bounds-check-end-in-Ok c =
+    stands_long c.args.input.now c.requires.ready c.requires.input c.after_end.ensures c.read_candidate.ensures c.in-Ok.is
 
-pub returns-in-Refused : goal.returns-in-Refused
-returns-in-Refused c = said_as c.say_refused.ensures (candidate_refused c.requires.1 (text_short c.args.input.now c.requires.0 c.after_end-text.ensures) c.read_candidate-read.ensures c.in-Refused.is ∙ same_rest c.args.input.now c.requires.1 c.after_end-text.ensures)
+pub say_refused-requires-in-Err-check-clause-returned : goal.say_refused-requires-in-Err-check-clause-returned
+say_refused-requires-in-Err-check-clause-returned c =
+    absurd (never_refused c.args.input.now c.requires.ready c.requires.input c.after_end.ensures c.read_candidate.ensures c.in-Ok.is c.check.ensures c.in-Err-check.is)
 
-pub returns-in-Done : goal.returns-in-Done
-returns-in-Done c = said_as c.say_judged.ensures (candidate_judged c.requires.1 (text_short c.args.input.now c.requires.0 c.after_end-text.ensures) c.read_candidate-read.ensures c.in-Done.is c.check-told.ensures ∙ same_rest c.args.input.now c.requires.1 c.after_end-text.ensures)
+pub returns-in-Err : goal.returns-in-Err
+returns-in-Err c =
+    said_as c.say_refused.ensures
+    (candidate_refused c.args.input.now c.requires.ready c.requires.input c.after_end.ensures c.read_candidate.ensures c.in-Err.is)
+
+pub returns-in-Err-check : goal.returns-in-Err-check
+returns-in-Err-check c =
+    absurd (never_refused c.args.input.now c.requires.ready c.requires.input c.after_end.ensures c.read_candidate.ensures c.in-Ok.is c.check.ensures c.in-Err-check.is)
+
+pub returns-in-Ok-check : goal.returns-in-Ok-check
+returns-in-Ok-check c =
+    said_as c.say_judged.ensures
+    (candidate_judged c.args.input.now c.requires.ready c.requires.input c.after_end.ensures c.read_candidate.ensures c.in-Ok.is c.check.ensures c.in-Ok-check.is)

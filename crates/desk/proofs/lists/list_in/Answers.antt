@@ -7,15 +7,17 @@ use Rattle.desk.proofs.Prepared.{ready_of}
 use Rattle.desk.proofs.Listed.{rows-listed}
 use Rattle.desk.proofs.lists.list_in.Goals as goal
 
-pub overflow_cast-value : goal.overflow_cast-value
-overflow_cast-value c = omega (arith, value_small c.read_function-read.ensures c.requires.level c.requires.low c.requires.high c.in-Refused.is)
+pub say_refused-requires-clause-returned : goal.say_refused-requires-clause-returned
+say_refused-requires-clause-returned c = omega (arith, value_small c.requires.rooms c.read_function-read.ensures c.in-Err.is)
 
 pub say_list-requires : goal.say_list-requires
-say_list-requires c = ready_of (text_read c.read_function-read.ensures c.requires.level c.requires.low c.requires.high c.in-Done.is) c.requires.cubes c.requires.bytes
+say_list-requires c = ready_of c.requires.rooms (text_read c.requires.rooms c.read_function-read.ensures c.in-Ok.is) c.requires.answer
 
-pub returns-in-Refused : goal.returns-in-Refused
+pub returns-in-Err : goal.returns-in-Err
 unfolding list_answer
-returns-in-Refused c = said_as c.say_refused.ensures (text_refused c.read_function-read.ensures c.requires.level c.requires.low c.requires.high c.in-Refused.is _)
+returns-in-Err c = said_as c.say_refused.ensures (text_refused c.requires.rooms c.read_function-read.ensures c.in-Err.is _)
 
-pub returns-in-Done : goal.returns-in-Done
-returns-in-Done c = said_as c.say_list.ensures (rows-listed c.args.list.now c.args.answer.now (text_read c.read_function-read.ensures c.requires.level c.requires.low c.requires.high c.in-Done.is) c.requires.cubes c.requires.bytes)
+pub returns-in-Ok : goal.returns-in-Ok
+returns-in-Ok c =
+    said_as c.say_list.ensures.says
+    (rows-listed c.args.answer.now c.requires.rooms (text_read c.requires.rooms c.read_function-read.ensures c.in-Ok.is) c.requires.answer)

@@ -3,6 +3,6 @@ use Rattle.line.specs.Bytes.{bytes}
 use Rattle.desk.proofs.Saying.{line_ended}
 use Rattle.desk.proofs.said.end_line.Goals as goal
 
-pub returns : goal.returns
+pub returns-clause-says : goal.returns-clause-says
 unfolding bytes
-returns c = λ old w p. line_ended p c.put_bytes-past.ensures c.clear_from.ensures c.requires
+returns-clause-says c = λ old w p. line_ended p c.byte.ensures.put c.clear_rest.ensures.cleared c.requires

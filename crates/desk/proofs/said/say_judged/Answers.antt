@@ -1,31 +1,26 @@
 -- `desk::said::say_judged` meets its contract, case by case.
-use mathlib.Core.Path.{sym, ap}
 use Rattle.line.specs.Bytes.{bytes}
 use Rattle.desk.specs.Said.{verdict_text}
 use Rattle.desk.specs.Judged.{judged_text}
-use Rattle.desk.proofs.Saying.{said_as}
+use Rattle.desk.proofs.Saying.{fault_said}
 use Rattle.desk.proofs.said.say_judged.Goals as goal
 
-pub returns-in-Accept : goal.returns-in-Accept
+pub returns-in-Ok : goal.returns-in-Ok
 unfolding bytes judged_text verdict_text
-returns-in-Accept c = said_as (c.end_line.ensures _ _ c.put_bytes-end_at.ensures) (ap (judged_text c.args.columns) (sym c.in-Accept.is))
+returns-in-Ok c = rw c.in-Ok.is c.say_accept.ensures
 
-pub returns-in-Off : goal.returns-in-Off
+pub returns-in-Err-Off : goal.returns-in-Err-Off
 unfolding bytes judged_text verdict_text
-returns-in-Off c = said_as c.say_off.ensures (ap (judged_text c.args.columns) (sym c.in-Off.is))
+returns-in-Err-Off c = fault_said _ c.in-Err-Off.is (rw c.in-Err-Off.is at c.in-Err-Off.field-0-is) c.say_off.ensures
 
-pub returns-in-Missing : goal.returns-in-Missing
+pub returns-in-Err-Missing : goal.returns-in-Err-Missing
 unfolding bytes judged_text verdict_text
-returns-in-Missing c = said_as c.say_missing.ensures (ap (judged_text c.args.columns) (sym c.in-Missing.is))
+returns-in-Err-Missing c = fault_said _ c.in-Err-Missing.is (rw c.in-Err-Missing.is at c.in-Err-Missing.field-0-is) c.say_missing.ensures
 
-pub returns-in-Literal : goal.returns-in-Literal
+pub returns-in-Err-Literal : goal.returns-in-Err-Literal
 unfolding bytes judged_text verdict_text
-returns-in-Literal c = said_as c.say_numbers.ensures (ap (judged_text c.args.columns) (sym c.in-Literal.is))
+returns-in-Err-Literal c = fault_said _ c.in-Err-Literal.is (rw c.in-Err-Literal.is at c.in-Err-Literal.field-0-is) c.say_numbers.ensures
 
-pub returns-in-Cube : goal.returns-in-Cube
+pub returns-in-Err-Cube : goal.returns-in-Err-Cube
 unfolding bytes judged_text verdict_text
-returns-in-Cube c = said_as c.say_cube.ensures (ap (judged_text c.args.columns) (sym c.in-Cube.is))
-
-pub returns-in-Refused : goal.returns-in-Refused
-unfolding bytes judged_text verdict_text
-returns-in-Refused c = said_as c.say_refused.ensures (ap (judged_text c.args.columns) (sym c.in-Refused.is))
+returns-in-Err-Cube c = fault_said _ c.in-Err-Cube.is (rw c.in-Err-Cube.is at c.in-Err-Cube.field-0-is) c.say_cube.ensures

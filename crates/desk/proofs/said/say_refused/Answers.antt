@@ -1,8 +1,11 @@
--- `desk::said::say_refused` meets its contract.
+-- `desk::said::say_refused` meets its contract: the number is the refusal's.
+use mathlib.Core.Path.{ap}
 use Rattle.line.specs.Bytes.{bytes}
 use Rattle.desk.specs.Said.{refused_text}
+use Rattle.desk.specs.Judged.{refusal_text}
+use Rattle.desk.proofs.Saying.{said_as}
 use Rattle.desk.proofs.said.say_refused.Goals as goal
 
 pub returns : goal.returns
-unfolding bytes refused_text
-returns c = c.say_numbers.ensures
+unfolding bytes refusal_text refused_text
+returns c = said_as c.say_numbers.ensures (ap (λ r. refused_text r c.args.refused.returned) c.number-number.ensures)
