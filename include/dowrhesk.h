@@ -25,7 +25,7 @@
  * A node table has two faces, and a count of records in use. The functions below lend it as three slices
  * of one length, level, low and high: the plain face, which copies nothing. Those named dowrhesk_row_..
  * lend it as one row of records, each a struct dowrhesk_node: for a caller whose table is such a row, at
- * the price of copying 4,096 records in and out at each call, on some 160 KB of stack. Both give the same
+ * the price of copying its records in and out at each call, on some 140 KB of stack. Both give the same
  * numbers and leave the same records, and a table may go from one face to the other between two calls.
  * Numbers 0 and 1 are the constants, record i (from 0) has number i + 2. A point has bit k for column k.
  * A cube has bit k if column k must be 1, and bit 16 + k if it must be 0.

@@ -1,15 +1,17 @@
 -- What an export's contract allows is one status, one content of the array, and one of the slices or the row lent.
-use mathlib.Core.Path.{◌≡◌, sym, ap, ◌∙◌}
+use mathlib.Core.Path.{◌≡◌, sym, ap, ap₂, ◌∙◌}
 use mathlib.Core.Bool.{Bool}
 use mathlib.Core.List.{List}
 use Prim.Native.Nat.{ℕ}
+use Rattle.std.specs.Prelude.{Result}
 use Rattle.rule.specs.Func.{Fn}
+use Rattle.rule.specs.declared.refusal.Refusal.{Refusal}
+use Rattle.rule.specs.declared.refusal.Refused.{Refused}
 use Rattle.graph.specs.Entry.{numbers_of}
-use Rattle.graph.specs.declared.entry.Valued.{Valued}
 use Rattle.graph.proofs.Unique.{operated_unique}
 use Rattle.list.specs.Entry as list
 use Rattle.list.proofs.Delivered.{generates_unique}
-use Rattle.checker.specs.declared.judged.Judged.{Judged}
+use Rattle.checker.specs.Judging.{Judged}
 use Rattle.text.specs.Writing as writing
 use Rattle.text.specs.Candidate.{read_numbers}
 use Rattle.text.specs.Function.{function_numbers}
@@ -25,18 +27,18 @@ module _ {n : ℕ} {c : ℕ} {v : List ℕ} {l : List ℕ} {h : List ℕ} {range
       (s₁ ≡ s₂) × (o₁ ≡ o₂) × (v₁ ≡ v₂) × (l₁ ≡ l₂) × (h₁ ≡ h₂)
   operating_unique p q =
       let same = operated_unique p.operated q.operated in (
-        p.told.refusal ∙ ap (λ a. (numbers_of a).refusal) same.0 ∙ sym q.told.refusal,
-        p.told.numbers ∙ ap root_and_count same.0 ∙ sym q.told.numbers,
-        same.1,
+        p.told.refusal ∙ ap₂ (λ a d. (numbers_of a d).refusal) same.0 same.1 ∙ sym q.told.refusal,
+        p.told.numbers ∙ ap₂ root_and_count same.0 same.1 ∙ sym q.told.numbers,
         same.2,
         same.3,
+        same.4,
       )
 
-pub told_value_unique : {a : Valued} {s₁ : ℕ} {o₁ : List ℕ} {s₂ : ℕ} {o₂ : List ℕ} → ToldValue a s₁ o₁ → ToldValue a s₂ o₂ →
+pub told_value_unique : {a : Result Bool Refusal} {s₁ : ℕ} {o₁ : List ℕ} {s₂ : ℕ} {o₂ : List ℕ} → ToldValue a s₁ o₁ → ToldValue a s₂ o₂ →
     (s₁ ≡ s₂) × (o₁ ≡ o₂)
 told_value_unique p q = (p.refusal ∙ sym q.refusal, p.numbers ∙ sym q.numbers)
 
-pub told-verdict_unique : {a : Judged} {s₁ : ℕ} {o₁ : List ℕ} {s₂ : ℕ} {o₂ : List ℕ} → ToldVerdict a s₁ o₁ → ToldVerdict a s₂ o₂ →
+pub told-verdict_unique : {a : Result Judged Refused} {s₁ : ℕ} {o₁ : List ℕ} {s₂ : ℕ} {o₂ : List ℕ} → ToldVerdict a s₁ o₁ → ToldVerdict a s₂ o₂ →
     (s₁ ≡ s₂) × (o₁ ≡ o₂)
 told-verdict_unique p q = (p.refusal ∙ sym q.refusal, p.numbers ∙ sym q.numbers)
 
@@ -47,10 +49,10 @@ module _ {n : ℕ} {c : ℕ} {v : List ℕ} {l : List ℕ} {h : List ℕ} {a : �
       let same = generates_unique n c v l h a b room p.generates q.generates in (
         p.told.refusal ∙ ap (λ a. (list.numbers_of a).refusal) same.0 ∙ sym q.told.refusal,
         p.told.numbers ∙ ap returned_and_length same.0 ∙ sym q.told.numbers,
-        same.1,
         same.2,
         same.3,
         same.4,
+        same.5,
       )
 
 module _ {n : ℕ} {xs : List ℕ} {room : List ℕ} {room₁ : List ℕ} {s₁ : ℕ} {o₁ : List ℕ} {room₂ : List ℕ} {s₂ : ℕ} {o₂ : List ℕ} where
@@ -87,9 +89,9 @@ pub row_operating_unique : {op : Operation} {n c : ℕ} {xs ys₁ ys₂ : List N
     (s₁ ≡ s₂) × (o₁ ≡ o₂) × (ys₁ ≡ ys₂)
 row_operating_unique p q =
     let same = operates_unique p.operates q.operates in (
-      p.told.refusal ∙ ap (λ a. (numbers_of a).refusal) same.0 ∙ sym q.told.refusal,
-      p.told.numbers ∙ ap root_and_count same.0 ∙ sym q.told.numbers,
-      same.1,
+      p.told.refusal ∙ ap₂ (λ a d. (numbers_of a d).refusal) same.0 same.1 ∙ sym q.told.refusal,
+      p.told.numbers ∙ ap₂ root_and_count same.0 same.1 ∙ sym q.told.numbers,
+      same.2,
     )
 
 module _ {n c : ℕ} {xs ys₁ ys₂ : List Node} {a b : ℕ} {room room₁ room₂ : List ℕ} {s₁ s₂ : ℕ} {o₁ o₂ : List ℕ} where
@@ -99,8 +101,8 @@ module _ {n c : ℕ} {xs ys₁ ys₂ : List Node} {a b : ℕ} {room room₁ room
       let same = row-generates_unique p.generates q.generates in (
         p.told.refusal ∙ ap (λ a. (list.numbers_of a).refusal) same.0 ∙ sym q.told.refusal,
         p.told.numbers ∙ ap returned_and_length same.0 ∙ sym q.told.numbers,
-        same.1,
         same.2,
+        same.3,
       )
 
 pub row-reading_unique : {text : List ℕ} {xs ys₁ ys₂ : List Node} {s₁ s₂ : ℕ} {o₁ o₂ : List ℕ} → RowReading text xs ys₁ s₁ o₁ → RowReading text xs ys₂ s₂ o₂ →

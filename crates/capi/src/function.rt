@@ -1,5 +1,6 @@
 // Reading a function text. The array gets what a refusal returns, the columns, the count of records in use and both roots;
 // the text is only read.
+// Kept: the table's parts one by one: the C interface.
 ghost use Rattle.capi.specs.Exports.{ReadingFunction};
 
 use telling::told;

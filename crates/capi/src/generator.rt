@@ -1,6 +1,8 @@
 // The list generator. The array gets what a refusal returns and the length of the list that stands in the room.
+// Kept: the table's parts one by one: the C interface.
 ghost use Rattle.capi.specs.Exports.{Generating};
 
+use graph::build::TableMut;
 use list::entry;
 use telling::told;
 
@@ -19,6 +21,13 @@ pub extern "C" fn dowrhesk_generate(
 ) -> u16
     ensures { Generating columns count level.old low.old high.old lower upper room.old level.new low.new high.new room.new result out.new }
 {
-    let answer = entry::generate(columns, level, low, high, count, lower, upper, room);
-    told::tell_list(answer, out)
+    let mut table = TableMut {
+        columns,
+        count,
+        level,
+        low,
+        high,
+    };
+    let answer = entry::generate(&mut table, lower, upper, room);
+    told::tell_length(answer, out)
 }

@@ -1,8 +1,10 @@
 // The operations that build: and, or, difference, variable. The array gets the root and the count of records in use.
+// Kept: an export for each operation, its parameters one by one: the C interface.
 ghost use Rattle.std.specs.Prelude.{◌&&◌, ltb};
 ghost use Rattle.graph.specs.Entry.{in_range, result_of, variable_fn};
 ghost use Rattle.capi.specs.Exports.{Operating};
 
+use graph::build::TableMut;
 use graph::entry;
 use graph::operation::Op;
 use telling::told;
@@ -21,8 +23,15 @@ pub extern "C" fn dowrhesk_and(
 ) -> u16
     ensures { Operating columns count level.old low.old high.old (in_range count a && in_range count b) (result_of Op.And columns level.old low.old high.old a b) level.new low.new high.new result out.new }
 {
-    let answer = entry::and(columns, level, low, high, count, a, b);
-    told::tell(answer, out)
+    let mut table = TableMut {
+        columns,
+        count,
+        level,
+        low,
+        high,
+    };
+    let answer = entry::operate(&mut table, Op::And, a, b);
+    told::tell(answer, table.count, out)
 }
 
 // The function that is 1 where either root is.
@@ -39,8 +48,15 @@ pub extern "C" fn dowrhesk_or(
 ) -> u16
     ensures { Operating columns count level.old low.old high.old (in_range count a && in_range count b) (result_of Op.Or columns level.old low.old high.old a b) level.new low.new high.new result out.new }
 {
-    let answer = entry::or(columns, level, low, high, count, a, b);
-    told::tell(answer, out)
+    let mut table = TableMut {
+        columns,
+        count,
+        level,
+        low,
+        high,
+    };
+    let answer = entry::operate(&mut table, Op::Or, a, b);
+    told::tell(answer, table.count, out)
 }
 
 // The function that is 1 where the first root is and the second is not.
@@ -57,8 +73,15 @@ pub extern "C" fn dowrhesk_difference(
 ) -> u16
     ensures { Operating columns count level.old low.old high.old (in_range count a && in_range count b) (result_of Op.Difference columns level.old low.old high.old a b) level.new low.new high.new result out.new }
 {
-    let answer = entry::difference(columns, level, low, high, count, a, b);
-    told::tell(answer, out)
+    let mut table = TableMut {
+        columns,
+        count,
+        level,
+        low,
+        high,
+    };
+    let answer = entry::operate(&mut table, Op::Difference, a, b);
+    told::tell(answer, table.count, out)
 }
 
 // The function that is 1 where a column is 1.
@@ -74,6 +97,13 @@ pub extern "C" fn dowrhesk_variable(
 ) -> u16
     ensures { Operating columns count level.old low.old high.old (ltb column columns) (variable_fn columns column) level.new low.new high.new result out.new }
 {
-    let answer = entry::variable(columns, level, low, high, count, column);
-    told::tell(answer, out)
+    let mut table = TableMut {
+        columns,
+        count,
+        level,
+        low,
+        high,
+    };
+    let answer = entry::variable(&mut table, column);
+    told::tell(answer, table.count, out)
 }

@@ -1,11 +1,13 @@
 // The entries on a row of node records. Each returns what its namesake on three slices returns, and fills its array alike.
+// Kept: an export for each operation, its parameters one by one: the C interface.
 ghost use Rattle.nodes.specs.Value.{row_value};
 ghost use Rattle.nodes.specs.Verdict.{row_verdict};
 ghost use Rattle.telling.specs.Told.{ToldValue, ToldVerdict};
 ghost use Rattle.capi.specs.Exports.{RowOperating, RowGenerating, RowReading};
 
+use graph::operation::Op;
 use nodes::operation::Operation;
-use nodes::row::Node;
+use nodes::row::{Node, RowMut, RowRef};
 use nodes::{generator, operation, reading, value, verdict};
 use telling::told;
 
@@ -19,10 +21,15 @@ pub extern "C" fn dowrhesk_row_and(
     b: u16,
     out: &mut [u64; 2],
 ) -> u16
-    ensures { RowOperating (Operation.And a b) columns count nodes.old nodes.new result out.new }
+    ensures { RowOperating (Operation.Of Op.And a b) columns count nodes.old nodes.new result out.new }
 {
-    let answer = operation::operate(Operation::And(a, b), columns, nodes, count);
-    told::tell(answer, out)
+    let mut row = RowMut {
+        columns,
+        count,
+        nodes,
+    };
+    let answer = operation::operate(&mut row, Operation::Of(Op::And, a, b));
+    told::tell(answer, row.count, out)
 }
 
 // The function that is 1 where either root is.
@@ -35,10 +42,15 @@ pub extern "C" fn dowrhesk_row_or(
     b: u16,
     out: &mut [u64; 2],
 ) -> u16
-    ensures { RowOperating (Operation.Or a b) columns count nodes.old nodes.new result out.new }
+    ensures { RowOperating (Operation.Of Op.Or a b) columns count nodes.old nodes.new result out.new }
 {
-    let answer = operation::operate(Operation::Or(a, b), columns, nodes, count);
-    told::tell(answer, out)
+    let mut row = RowMut {
+        columns,
+        count,
+        nodes,
+    };
+    let answer = operation::operate(&mut row, Operation::Of(Op::Or, a, b));
+    told::tell(answer, row.count, out)
 }
 
 // The function that is 1 where the first root is and the second is not.
@@ -51,10 +63,15 @@ pub extern "C" fn dowrhesk_row_difference(
     b: u16,
     out: &mut [u64; 2],
 ) -> u16
-    ensures { RowOperating (Operation.Difference a b) columns count nodes.old nodes.new result out.new }
+    ensures { RowOperating (Operation.Of Op.Difference a b) columns count nodes.old nodes.new result out.new }
 {
-    let answer = operation::operate(Operation::Difference(a, b), columns, nodes, count);
-    told::tell(answer, out)
+    let mut row = RowMut {
+        columns,
+        count,
+        nodes,
+    };
+    let answer = operation::operate(&mut row, Operation::Of(Op::Difference, a, b));
+    told::tell(answer, row.count, out)
 }
 
 // The function that is 1 where a column is 1.
@@ -68,8 +85,13 @@ pub extern "C" fn dowrhesk_row_variable(
 ) -> u16
     ensures { RowOperating (Operation.Variable column) columns count nodes.old nodes.new result out.new }
 {
-    let answer = operation::operate(Operation::Variable(column), columns, nodes, count);
-    told::tell(answer, out)
+    let mut row = RowMut {
+        columns,
+        count,
+        nodes,
+    };
+    let answer = operation::operate(&mut row, Operation::Variable(column));
+    told::tell(answer, row.count, out)
 }
 
 // The value of a root at a point.
@@ -84,7 +106,12 @@ pub extern "C" fn dowrhesk_row_value(
 ) -> u16
     ensures { ToldValue (row_value columns count nodes.now root point) result out.new }
 {
-    let answer = value::value(columns, nodes, count, root, point);
+    let row = RowRef {
+        columns,
+        count,
+        nodes,
+    };
+    let answer = value::value(row, root, point);
     told::tell_value(answer, out)
 }
 
@@ -101,8 +128,13 @@ pub extern "C" fn dowrhesk_row_generate(
 ) -> u16
     ensures { RowGenerating columns count nodes.old lower upper room.old nodes.new room.new result out.new }
 {
-    let answer = generator::generate(columns, nodes, count, lower, upper, room);
-    told::tell_list(answer, out)
+    let mut row = RowMut {
+        columns,
+        count,
+        nodes,
+    };
+    let answer = generator::generate(&mut row, lower, upper, room);
+    told::tell_length(answer, out)
 }
 
 // The verdict on any list for a lower and an upper root.
@@ -118,7 +150,12 @@ pub extern "C" fn dowrhesk_row_check(
 ) -> u16
     ensures { ToldVerdict (row_verdict columns count nodes.now lower upper list.now) result out.new }
 {
-    let answer = verdict::check(columns, nodes, count, lower, upper, list);
+    let row = RowRef {
+        columns,
+        count,
+        nodes,
+    };
+    let answer = verdict::check(row, lower, upper, list);
     told::tell_verdict(answer, out)
 }
 

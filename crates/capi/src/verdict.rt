@@ -1,8 +1,10 @@
 // The list checker. The array gets the kind of the verdict, or what a refusal returns, and the verdict's values; the table
 // and the list are only read.
+// Kept: the table's parts one by one: the C interface.
 ghost use Rattle.checker.specs.Entry.{answer_for, refusal};
 ghost use Rattle.telling.specs.Told.{ToldVerdict};
 
+use graph::table::TableRef;
 use list::check;
 use telling::told;
 
@@ -21,6 +23,13 @@ pub extern "C" fn dowrhesk_check(
 ) -> u16
     ensures { ToldVerdict (answer_for columns count level.now low.now high.now lower upper list.now (refusal columns count level.now low.now high.now lower upper list.now)) result out.new }
 {
-    let answer = check::check(columns, level, low, high, count, lower, upper, list);
+    let table = TableRef {
+        columns,
+        count,
+        level,
+        low,
+        high,
+    };
+    let answer = check::check(table, lower, upper, list);
     told::tell_verdict(answer, out)
 }
