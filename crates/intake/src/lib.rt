@@ -24,6 +24,7 @@ pub fn read_full<R: Read>(reader: &mut R, room: &mut [u8]) -> usize
     ensures bytes { Consumes (R.remaining reader.old) (R.remaining reader.new) (take result room.new) }
 {
     let mut done = 0;
+    // Kept: a loop over reads, each of as many bytes as come; no index is counted.
     while done < room.len() {
         let count = read_some(reader, &mut room[done..]);
         if count == 0 {
