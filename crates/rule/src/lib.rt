@@ -1,4 +1,4 @@
-// The leaves on a single cube, and the constant table of the three-valued rules.
+// The leaves on a single cube, the refusals and their numbers, and the constant table of the three-valued rules.
 #![tactic(auto)]
 
 pub mod cube;

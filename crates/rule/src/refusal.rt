@@ -1,23 +1,24 @@
-// The refusals, and their numbers. An entry that is done returns 0 in their place.
+// The refusals and their numbers, and the number that belongs to a refusal. An entry answers Ok with its result, or Err with
+// the first refusal that applies.
 ghost use Rattle.std.specs.Prelude.{◌≡◌};
 ghost use Rattle.rule.specs.Refusal.{number_of};
 
-// Why an entry refuses, in the order of the numbers.
+// Why an entry refuses, with document 01's numbers.
 #[derive(Clone, Copy)]
 pub enum Refusal {
-    ColumnsOver,
-    TableOver,
-    RecordBroken,
-    OutOfRange,
-    NotWithin,
-    ListOver,
-    NodesLack,
-    ListLacks,
-    CubeMalformed,
-    TextOver,
-    TextFault,
-    OnAndOff,
-    TextLacks,
+    ColumnsOver = 1,
+    TableOver = 2,
+    RecordBroken = 3,
+    OutOfRange = 4,
+    NotWithin = 5,
+    ListOver = 6,
+    NodesLack = 7,
+    ListLacks = 8,
+    CubeMalformed = 9,
+    TextOver = 10,
+    TextFault = 11,
+    OnAndOff = 12,
+    TextLacks = 13,
 }
 
 impl Refusal {
@@ -25,21 +26,7 @@ impl Refusal {
     pub fn number(self) -> u16
         ensures { result ≡ number_of self }
     {
-        match self {
-            Refusal::ColumnsOver => 1,
-            Refusal::TableOver => 2,
-            Refusal::RecordBroken => 3,
-            Refusal::OutOfRange => 4,
-            Refusal::NotWithin => 5,
-            Refusal::ListOver => 6,
-            Refusal::NodesLack => 7,
-            Refusal::ListLacks => 8,
-            Refusal::CubeMalformed => 9,
-            Refusal::TextOver => 10,
-            Refusal::TextFault => 11,
-            Refusal::OnAndOff => 12,
-            Refusal::TextLacks => 13,
-        }
+        self as u16
     }
 
     // The refusal with what it returns.
@@ -55,7 +42,8 @@ impl Refusal {
 }
 
 // A refusal with what it returns: the place of a fault, the room that is needed, or 0.
-// Kept: 0 for nothing, since that is the number that document 01 has returned.
+// Kept: the number stands beside its refusal, as document 01 has it: one number for each, 0 where there is none; the exports
+// give out both.
 #[derive(Clone, Copy)]
 pub struct Refused {
     pub refusal: Refusal,
