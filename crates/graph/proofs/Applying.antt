@@ -1,11 +1,10 @@
 -- An operation of two numbers, one law for each call and each way out: a known number, a column on which neither number
 -- depends, a half that does not fit, and the node of both halves.
 use mathlib.Core.Path.{◌≡◌, sym, ◌∙◌, subst, subst⁻¹}
-use mathlib.Core.Bool.{Bool, true, false, true≢false}
+use mathlib.Core.Bool.{Bool, true, false}
 use Prim.Native.Nat.{ℕ, zero, suc, ◌+◌, ◌-◌, ◌<◌, ◌≤◌}
 use native.Mathlib.Omega.{arith}
 use Rattle.std.specs.Prelude.{Option, Some, None}
-use Rattle.std.specs.Option.{is_some}
 use Rattle.rule.specs.Func.{Fn, joined}
 use Rattle.graph.specs.Table.{half_of, fn_of, refers, node_fn}
 use Rattle.graph.specs.Operation.{op_of, TerminalOf}
@@ -49,39 +48,31 @@ pub record Halved (op : Op) (t : TableMut) (k : ℕ) (a : ℕ) (b : ℕ) (f : Ha
   pub first : (f.low ≡ half_of (table t) k false a) × (f.high ≡ half_of (table t) k true a)
   pub second : (g.low ≡ half_of (table t) k false b) × (g.high ≡ half_of (table t) k true b)
 
-module _ (op : Op) (t : TableMut) (k : ℕ) (a : ℕ) (b : ℕ) (p : RootsIn t k a b) (r : Option ℕ) (q : TerminalOf op a b r) where
+module _ (op : Op) (t : TableMut) (k : ℕ) (a : ℕ) (b : ℕ) (p : RootsIn t k a b) where
   -- A known number is the result.
-  pub known_made : true ≡ is_some r → Promise op t k a b t r
+  pub known_made : (x : ℕ) → TerminalOf op a b (Some x) → Promise op t k a b t (Some x)
   unfolding Promise MadeOf TerminalOf
-  known_made s = go r q s
-    where
-      go : (r : Option ℕ) → TerminalOf op a b r → true ≡ is_some r → Promise op t k a b t r
-      go None q s = absurd (true≢false s)
-      go (Some x) q s =
-          λ m e.
-          built_in_use t.columns t.count t.level.now t.low.now t.high.now k m _ x p.sound e
-          (q.number (table t) t.count k p.first p.second) (q.means (table t) k m)
+  known_made x q =
+      λ m e.
+      built_in_use t.columns t.count t.level.now t.low.now t.high.now k m _ x p.sound e
+      (q.number (table t) t.count k p.first p.second) (q.means (table t) k m)
 
   -- Operands to be split are not both constants, so a column is left.
-  splits : false ≡ is_some r → k < t.columns
+  splits : TerminalOf op a b None → k < t.columns
   unfolding TerminalOf
-  splits s = lt_of_ne p.column (λ e. go r q s (ends a p.first e, ends b p.second e))
+  splits q = lt_of_ne p.column (λ e. q (ends a p.first e, ends b p.second e))
     where
-      go : (r : Option ℕ) → TerminalOf op a b r → false ≡ is_some r → (a < 2) × (b < 2) → ⊥
-      go None q s = q
-      go (Some x) q s = absurd (true≢false (sym s))
-
       ends : (x : ℕ) → refers (table t) t.count k x ≡ true → k ≡ t.columns → x < 2
       ends x r e = end_constant t.columns (table t) t.count x p.sound.good (subst (λ j. refers (table t) t.count j x ≡ true) e r)
 
       lt_of_ne : k ≤ t.columns → (k ≡ t.columns → ⊥) → k < t.columns
       lt_of_ne u d = omega arith
 
-  pub halved : false ≡ is_some r → (s : TableRef) (s' : TableRef) → SharesIn t s → SharesIn t s' → {f : HalvesOf} {g : HalvesOf} →
+  pub halved : TerminalOf op a b None → (s : TableRef) (s' : TableRef) → SharesIn t s → SharesIn t s' → {f : HalvesOf} {g : HalvesOf} →
       (f.low ≡ half_of (read s) k false a) × (f.high ≡ half_of (read s) k true a) →
       (g.low ≡ half_of (read s') k false b) × (g.high ≡ half_of (read s') k true b) → Halved op t k a b f g
-  halved n s s' u u' d e =
-      record { roots = p; more = splits n; first = read_halves t s u k a d; second = read_halves t s' u' k b e }
+  halved q s s' u u' d e =
+      record { roots = p; more = splits q; first = read_halves t s u k a d; second = read_halves t s' u' k b e }
 
 module _ {op : Op} {t : TableMut} {k : ℕ} {a : ℕ} {b : ℕ} {f : HalvesOf} {g : HalvesOf} (s : Halved op t k a b f g) where
   -- The operation of the halves for a digit, and of the numbers as the pair of both.

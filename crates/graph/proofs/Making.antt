@@ -1,6 +1,6 @@
 -- Making a node, one law for each way out: its halves are equal, it is there, there is no room, it is put at the end.
 use mathlib.Core.Path.{◌≡◌, refl, sym, ap, ◌∙◌, subst⁻¹}
-use mathlib.Core.Bool.{true, false, true≢false}
+use mathlib.Core.Bool.{false}
 use mathlib.Core.List.{List, [], ◌∷◌, ◌++◌}
 use Prim.Native.Nat.{ℕ, suc, ◌+◌, ◌<◌}
 use native.Mathlib.Numerals.{add-one}
@@ -14,8 +14,7 @@ use Rattle.rule.proofs.Trees.{same_equal}
 use Rattle.rule.proofs.Sets.{absent_goes_last}
 use Rattle.rule.proofs.Nodes.{halves_present_adds_itself}
 use Rattle.graph.specs.Table.{Table, table_of, fn_of, number_at, functions, node_fn, Agree}
-use Rattle.std.specs.Prelude.{Option, Some, None}
-use Rattle.std.specs.Option.{is_some}
+use Rattle.std.specs.Prelude.{Some, None}
 use Rattle.rule.specs.Refusal.{some_number}
 use Rattle.rule.proofs.Refusals.{some_number_some, some_number_none}
 use Rattle.graph.specs.Built.{Halves, Built, Lacking, MadeOf}
@@ -44,10 +43,9 @@ module _ (n : ℕ) (c : ℕ) (v : List ℕ) (l : List ℕ) (h : List ℕ) (k : �
       (record_fn (table_of v l h) k m f.place f.here.level ∙
       (λ i. (fn_of (table_of v l h) (k + 1) m (f.here.low i), fn_of (table_of v l h) (k + 1) m (f.here.high i)))))
 
-  pub made_found : (r : Option ℕ) → r ≡ some_number (number_at (table_of v l h) c k a b) → true ≡ is_some r → MadeOf n c v l h v l h k (suc m) (node_fn (table_of v l h) k m a b) c r
+  pub made_found : (x : ℕ) → Some x ≡ some_number (number_at (table_of v l h) c k a b) → MadeOf n c v l h v l h k (suc m) (node_fn (table_of v l h) k m a b) c (Some x)
   unfolding MadeOf
-  made_found None q t = absurd (true≢false t)
-  made_found (Some x) q t =
+  made_found x q =
       let f = some_number_some (number_at (table_of v l h) c k a b) x (sym q) in
       found_built x (sym f.0) (λ z. omega (arith, f.1))
 
@@ -133,6 +131,5 @@ module _ (n : ℕ) (c : ℕ) (v : List ℕ) (l : List ℕ) (h : List ℕ) (k : �
       T' = table_of (set v c k) (set l c a) (set h c b)
 
 -- Where the look-up found none, no record has the numbers.
-pub not_there : (r : Option ℕ) (x : ℕ) → r ≡ some_number x → false ≡ is_some r → x ≡ 0
-not_there None x q f = some_number_none x (sym q)
-not_there (Some y) x q f = absurd (true≢false (sym f))
+pub not_there : (x : ℕ) → None ≡ some_number x → x ≡ 0
+not_there x q = some_number_none x (sym q)

@@ -41,9 +41,8 @@ impl TableMut<'_> {
         if l == h {
             return Some(l);
         }
-        let found = self.reading().number_at(k, l, h);
-        if found.is_some() {
-            return found;
+        if let Some(x) = self.reading().number_at(k, l, h) {
+            return Some(x);
         }
         if self.count == self.level.len() {
             return None;
@@ -62,9 +61,8 @@ impl TableMut<'_> {
         ensures same { SameSlices self.old self.new }
         ensures made { (m : ℕ) → k + m ≡ self.old.columns → MadeIn self.old self.new k m (joined (op_of op) m (fn_of (table self.old) k m a) (fn_of (table self.old) k m b)) result }
     {
-        let known = op.known(a, b);
-        if known.is_some() {
-            return known;
+        if let Some(x) = op.known(a, b) {
+            return Some(x);
         }
         let first = self.reading().split(k, a);
         let second = self.reading().split(k, b);

@@ -31,18 +31,16 @@ impl Operations<'_, '_> {
         ensures made { (m : ℕ) → k + m ≡ self.old.table.now.columns → MadeIn self.old.table.now self.new.table.now k m (joined (op_of op) m (fn_of (table self.old.table.now) k m a) (fn_of (table self.old.table.now) k m b)) result }
         ensures memo { HoldsAfterIn self.new result }
     {
-        let known = op.known(a, b);
-        if known.is_some() {
-            return known;
+        if let Some(x) = op.known(a, b) {
+            return Some(x);
         }
         let first = self.table.reading().split(k, a);
         let second = self.table.reading().split(k, b);
         if first.low == first.high && second.low == second.high {
             return self.apply(op, k + 1, first.low, second.low);
         }
-        let found = self.memo.recall(op, a, b, k);
-        if found.is_some() {
-            return found;
+        if let Some(x) = self.memo.recall(op, a, b, k) {
+            return Some(x);
         }
         self.by_halves(op, k, a, b, first, second)
     }

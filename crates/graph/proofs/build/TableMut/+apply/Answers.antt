@@ -8,9 +8,9 @@ use Rattle.graph.proofs.Applying.{Promise, Halved, known_made, halved, low_twice
 use Rattle.graph.proofs.build.TableMut.+apply.Goals as goal
 use Rattle.graph.proofs.build.TableMut.+apply.Goals.{After-split-second}
 
-pub returns-then-is_some-clause-made : goal.returns-then-is_some-clause-made
+pub returns-in-Some-clause-made : goal.returns-in-Some-clause-made
 unfolding Promise
-returns-then-is_some-clause-made t c = known_made _ c.args.self.now _ _ _ c.requires _ c.known-known.ensures c.if-is_some.ensures
+returns-in-Some-clause-made t c = known_made _ c.args.self.now _ _ _ c.requires _ c.in-Some.ensures
 
 pub split-first-requires : goal.split-first-requires
 split-first-requires t c = read_held _ _ c.reading.ensures _ (root_held (first-root c.requires))
@@ -21,7 +21,7 @@ split-second-requires t c = read_held _ _ c.reading-2.ensures _ (root_held (seco
 -- Past the splits, both operands have their halves.
 split-both : (t : ℕ) (c : After-split-second t) → Halved c.args.op c.args.self.now c.args.k c.args.a c.args.b c.split-first.result c.split-second.result
 split-both t c =
-    halved _ _ _ _ _ c.requires _ c.known-known.ensures c.if-is_some.ensures _ _ c.reading.ensures c.reading-2.ensures
+    halved _ _ _ _ _ c.requires c.in_default.ensures _ _ c.reading.ensures c.reading-2.ensures
     c.split-first.ensures c.split-second.ensures
 
 pub apply-requires : goal.apply-requires

@@ -11,12 +11,12 @@ use Rattle.memo.proofs.Remembering.{recalled_made, with_memo, of_memo, BothMade,
 use Rattle.memo.proofs.build.Operations.+apply_by_halves.Goals as goal
 use Rattle.memo.proofs.build.Operations.+apply_by_halves.Goals.{apply-After-split-second, by_halves-In_ok-y}
 
-pub apply-returns-then-is_some-clause-made : goal.apply-returns-then-is_some-clause-made
+pub apply-returns-in-Some-clause-made : goal.apply-returns-in-Some-clause-made
 unfolding Promise
-apply-returns-then-is_some-clause-made t c = known_made _ c.args.self.now.table.now _ _ _ c.requires.roots _ c.known-known.ensures c.if-is_some.ensures
+apply-returns-in-Some-clause-made t c = known_made _ c.args.self.now.table.now _ _ _ c.requires.roots _ c.in-Some.ensures
 
-pub apply-returns-then-is_some-clause-memo : goal.apply-returns-then-is_some-clause-memo
-apply-returns-then-is_some-clause-memo t c = holds-still _ c.requires.memo
+pub apply-returns-in-Some-clause-memo : goal.apply-returns-in-Some-clause-memo
+apply-returns-in-Some-clause-memo t c = holds-still _ c.requires.memo
 
 pub apply-split-first-requires : goal.apply-split-first-requires
 apply-split-first-requires t c = read_held _ _ c.reading.ensures _ (root_held (first-root c.requires.roots))
@@ -27,7 +27,7 @@ apply-split-second-requires t c = read_held _ _ c.reading-2.ensures _ (root_held
 -- Past the splits, both operands have their halves.
 split-both : (t : ℕ) (c : apply-After-split-second t) → Halved c.args.op c.args.self.now.table.now c.args.k c.args.a c.args.b c.split-first.result c.split-second.result
 split-both t c =
-    halved _ _ _ _ _ c.requires.roots _ c.known-known.ensures c.if-is_some.ensures _ _ c.reading.ensures c.reading-2.ensures
+    halved _ _ _ _ _ c.requires.roots c.in_default.ensures _ _ c.reading.ensures c.reading-2.ensures
     c.split-first.ensures c.split-second.ensures
 
 pub apply-apply-requires : goal.apply-apply-requires
@@ -41,13 +41,13 @@ apply-returns-then-second-clause-made t c =
     idle_made (split-both t (goal.at.apply-returns-then-second-clause-made t c).After-split-second) c.apply.new.self.table.now _ c.if-first.true
     c.if-second.true c.apply.ensures.made
 
-pub apply-returns-then-is_some-2-clause-made : goal.apply-returns-then-is_some-2-clause-made
+pub apply-returns-in-Some-recall-clause-made : goal.apply-returns-in-Some-recall-clause-made
 unfolding Promise
-apply-returns-then-is_some-2-clause-made t c =
-    recalled_made c.args.op c.args.self.now.table.now c.requires.roots _ c.if-is_some-2.ensures (c.recall-found.ensures _ _ _ _ _ c.requires.memo)
+apply-returns-in-Some-recall-clause-made t c =
+    recalled_made c.args.op c.args.self.now.table.now c.requires.roots _ (c.in-Some-recall.ensures _ _ _ _ _ c.requires.memo)
 
-pub apply-returns-then-is_some-2-clause-memo : goal.apply-returns-then-is_some-2-clause-memo
-apply-returns-then-is_some-2-clause-memo t c = holds-still _ c.requires.memo
+pub apply-returns-in-Some-recall-clause-memo : goal.apply-returns-in-Some-recall-clause-memo
+apply-returns-in-Some-recall-clause-memo t c = holds-still _ c.requires.memo
 
 pub apply-by_halves-requires : goal.apply-by_halves-requires
 apply-by_halves-requires t c =
