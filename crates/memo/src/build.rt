@@ -21,8 +21,8 @@ pub struct Operations<'o, 't> {
 impl Operations<'_, '_> {
     // The number of an operation of two numbers, over the columns from column k on, or none where there is no room for it. The
     // memo is asked, and told, at the columns that are taken apart.
-    // Kept: the steps of `TableMut::apply` once more, since the memo is asked between them; a trait over both would have every
-    // table ask a memo that it has not.
+    // Kept: the steps of `TableMut::apply` with the memo between them. One function over a trait of memos, with an empty memo for
+    // the entry, was not built, since each step's contract would then be said of the trait's ghost members.
     #[cycle(apply_by_halves)]
     pub fn apply(&mut self, op: Op, k: u16, a: u16, b: u16) -> Option<u16>
         requires roots { RootsIn self.old.table.now k a b }
