@@ -10,7 +10,7 @@ use crate::table::TableRef;
 use rule::refusal::Refusal;
 
 impl TableRef<'_> {
-    // Refusals 1, 2 and 3: the first condition of a table that is broken.
+    // `ColumnsOver`, `TableOver` or `RecordBroken`: the first condition of a table that is broken.
     pub fn table_refusal(self) -> Result<(), Refusal>
         ensures { result ≡ passed (first_broken (table_tests self.entry)) }
     {
@@ -27,8 +27,8 @@ impl TableRef<'_> {
         Ok(())
     }
 
-    // Refusals 1 to 6 of the generator and of the checker: the first condition of two roots and a list slice of a size that
-    // is broken.
+    // The refusals from `ColumnsOver` to `ListOver`, as the generator and the checker give them: the first condition of two
+    // roots and a list slice of a size that is broken.
     pub fn input_refusal(self, lower: u16, upper: u16, size: usize) -> Result<(), Refusal>
         ensures { result ≡ passed (first_broken (input_tests self.entry lower upper size)) }
     {

@@ -1,6 +1,7 @@
 // The operations and their terminal cases: where the result is known without taking columns apart.
 ghost use Rattle.graph.specs.Operation.{TerminalOf, symmetric};
 
+// An operation of two functions. The difference is the first and not the second.
 #[derive(Clone, Copy)]
 pub enum Op {
     And,
@@ -39,6 +40,7 @@ fn symmetric_terminal(one_decides: bool, a: u16, b: u16) -> Option<u16>
     None
 }
 
+// First and not second: 0 where the first is 0, the second is 1 or both are equal, and the first where the second is 0.
 fn difference_terminal(a: u16, b: u16) -> Option<u16>
     ensures { TerminalOf Op.Difference a b result }
 {
