@@ -100,7 +100,7 @@ add_twice S a b o =
     sym (add_all_append S (a ++ b) o)
 
 -- A fewer count of records in use.
-fewer_sized : {c : ℕ} {c' : ℕ} {v : List ℕ} {l : List ℕ} {h : List ℕ} → c ≤ c' → Sized c' v l h → Sized c v l h
+pub fewer_sized : {c : ℕ} {c' : ℕ} {v : List ℕ} {l : List ℕ} {h : List ℕ} → c ≤ c' → Sized c' v l h → Sized c v l h
 fewer_sized e s = record { count = omega (arith, s.count); low = s.low; high = s.high; room = s.room }
 
 module _ (n : ℕ) (c : ℕ) (v : List ℕ) (l : List ℕ) (h : List ℕ) (k : ℕ) (m : ℕ) (f : Fn m) (g : Fn m) where

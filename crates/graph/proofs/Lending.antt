@@ -2,6 +2,8 @@
 use mathlib.Core.Path.{◌≡◌, sym, ◌∙◌, subst₃}
 use mathlib.Core.Bool.{true, false}
 use Prim.Native.Nat.{ℕ}
+use Rattle.std.specs.Prelude.{Result}
+use Rattle.rule.specs.declared.refusal.Refusal.{Refusal}
 use Rattle.rule.specs.Refusal.{first_broken, passed, some_number}
 use Rattle.graph.specs.Table.{table_of, half_of, number_at}
 use Rattle.graph.specs.Sound.{Held}
@@ -18,8 +20,9 @@ module _ (t : TableMut) (s : TableRef) (q : SharesIn t s) where
   pub read_number : (k l h : ℕ) → some_number (number_at (read s) s.count k l h) ≡ some_number (number_at (table t) t.count k l h)
   read_number k l h = λ i. some_number (number_at (read_table i) (q.count i) k l h)
 
-  pub read_refusal : passed (first_broken (table_tests s)) ≡ passed (first_broken (table_conditions t.columns t.count t.level.now t.low.now t.high.now))
-  read_refusal = λ i. passed (first_broken (table_conditions (q.columns i) (q.count i) (q.level i) (q.low i) (q.high i)))
+  -- What the test of the table that is read answers, it answers of the lent one.
+  pub read_tested : {r : Result Unit Refusal} → r ≡ passed (first_broken (table_tests s)) → r ≡ passed (first_broken (table_conditions t.columns t.count t.level.now t.low.now t.high.now))
+  read_tested e = e ∙ (λ i. passed (first_broken (table_conditions (q.columns i) (q.count i) (q.level i) (q.low i) (q.high i))))
 
   pub read_held : (x : ℕ) → Held x t.level.now t.low.now t.high.now → HeldIn s x
   read_held x h = subst₃ (Held x) (sym q.level) (sym q.low) (sym q.high) h

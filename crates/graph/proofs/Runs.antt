@@ -2,7 +2,7 @@
 use mathlib.Core.Path.{◌≡◌, refl, sym, ap, ◌∙◌, subst}
 use mathlib.Core.Bool.{true}
 use mathlib.Core.List.{List, [], ◌++◌}
-use Prim.Native.Nat.{ℕ, ◌+◌, ◌≤◌}
+use Prim.Native.Nat.{ℕ, ◌+◌}
 use native.Mathlib.Omega.{arith}
 use lib.ListN.{length}
 use Rattle.rule.specs.Func.{Fn}
@@ -10,12 +10,12 @@ use Rattle.rule.specs.Nodes.{Tree, nodes, add_all}
 use Rattle.rule.proofs.Sets.{AllIn, add_all_append, present_last_adds_nothing}
 use Rattle.rule.proofs.Growth.{more_no_shorter}
 use Rattle.graph.specs.Table.{table_of, fn_of, refers, functions}
-use Rattle.graph.specs.Sound.{Sound, Sized}
+use Rattle.graph.specs.Sound.{Sound}
 use Rattle.graph.specs.Built.{Built, Lacking}
 use Rattle.graph.specs.Run.{Run, Short, Names}
 use Rattle.graph.proofs.Tests.{refers_wider}
 use Rattle.graph.proofs.Agree.{agree_through, agree-refers, agree_fn}
-use Rattle.graph.proofs.Building.{agree_itself}
+use Rattle.graph.proofs.Building.{agree_itself, fewer_sized}
 use Rattle.graph.proofs.Records.{nodes_in_use}
 
 -- Nothing named.
@@ -43,9 +43,6 @@ short-more {n} {c} {v} {l} {h} ts us s =
       kept = s.kept;
       lacks = omega (arith, s.lacks, more_no_shorter (functions n (table_of v l h) c) ts us);
     }
-
-fewer_sized : {c : ℕ} {c' : ℕ} {v : List ℕ} {l : List ℕ} {h : List ℕ} → c ≤ c' → Sized c' v l h → Sized c v l h
-fewer_sized e s = record { count = omega (arith, s.count); low = s.low; high = s.high; room = s.room }
 
 module _ {n : ℕ} {c : ℕ} {v : List ℕ} {l : List ℕ} {h : List ℕ} {v₁ : List ℕ} {l₁ : List ℕ} {h₁ : List ℕ} {c₁ : ℕ} where
   -- One run after another, and what does not fit after a run.
