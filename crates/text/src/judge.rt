@@ -2,6 +2,7 @@
 ghost use Rattle.std.specs.Prelude.{◌≡◌, ◌≤◌, length};
 ghost use Rattle.line.specs.declared.meaning.Line;
 ghost use Rattle.text.specs.Outcome.{start, allows_kind, allows_out, legal, step, finish, outcome};
+ghost use Rattle.text.specs.Outcome.{with_columns, with_output, with_kind, with_count, with_row};
 ghost use Rattle.text.specs.Judged.{judged, judged_plus};
 
 use crate::reader::Reader;
@@ -34,7 +35,7 @@ pub struct Shape {
     pub rows: u32,
 }
 
-// Whether a type and an output sign may stand in what is asked for.
+// Whether a type may stand in what is asked for: a candidate's is f or fd.
 #[tactic(auto, unfolding(crate::specs::Outcome::allows_kind))]
 fn allows_kind(asked: u16, kind: Kind) -> bool
     ensures { result ≡ allows_kind asked kind }
@@ -45,14 +46,14 @@ fn allows_kind(asked: u16, kind: Kind) -> bool
     }
 }
 
+// Whether an output sign may stand in what is asked for: a candidate's are 1.
 #[tactic(auto, unfolding(crate::specs::Outcome::allows_out))]
 fn allows_out(asked: u16, out: Out) -> bool
     ensures { result ≡ allows_out asked out }
 {
     match out {
         Out::One => true,
-        Out::Dash => asked == 0,
-        Out::Zero | Out::Tilde => asked == 0,
+        Out::Zero | Out::Dash | Out::Tilde => asked == 0,
     }
 }
 
@@ -65,6 +66,7 @@ fn legal(allowed: bool, then: State) -> Step
 }
 
 impl State {
+    // The state before the first line.
     #[tactic(auto, unfolding(crate::specs::Outcome::start))]
     fn nothing_said() -> State
         ensures { result ≡ start }
@@ -78,8 +80,60 @@ impl State {
         }
     }
 
+    // The state after each kind of line.
+    #[tactic(auto, unfolding(crate::specs::Outcome::with_columns))]
+    fn with_columns(self, n: u16) -> State
+        ensures { result ≡ with_columns self n }
+    {
+        State {
+            columns: Some(n),
+            ..self
+        }
+    }
+
+    #[tactic(auto, unfolding(crate::specs::Outcome::with_output))]
+    fn with_output(self) -> State
+        ensures { result ≡ with_output self }
+    {
+        State {
+            output: true,
+            ..self
+        }
+    }
+
+    #[tactic(auto, unfolding(crate::specs::Outcome::with_kind))]
+    fn with_kind(self, kind: Kind) -> State
+        ensures { result ≡ with_kind self kind }
+    {
+        State {
+            kind: Some(kind),
+            ..self
+        }
+    }
+
+    #[tactic(auto, unfolding(crate::specs::Outcome::with_count))]
+    fn with_count(self, n: u32) -> State
+        ensures { result ≡ with_count self n }
+    {
+        State {
+            count: Some(n),
+            ..self
+        }
+    }
+
+    #[tactic(auto, unfolding(crate::specs::Outcome::with_row))]
+    fn with_row(self) -> State
+        requires { self.rows ≤ 32768 }
+        ensures { result ≡ with_row self }
+    {
+        State {
+            rows: self.rows + 1,
+            ..self
+        }
+    }
+
     // What a line does after what was said so far. A directive stands before the first row, and once.
-    #[tactic(auto, unfolding(crate::specs::Outcome::step, crate::specs::Outcome::first, crate::specs::Outcome::said, crate::specs::Outcome::columns_are, crate::specs::Outcome::allows_columns, crate::specs::Outcome::with_columns, crate::specs::Outcome::with_output, crate::specs::Outcome::with_kind, crate::specs::Outcome::with_count, crate::specs::Outcome::with_row))]
+    #[tactic(auto, unfolding(crate::specs::Outcome::step, crate::specs::Outcome::first, crate::specs::Outcome::said, crate::specs::Outcome::columns_are, crate::specs::Outcome::allows_columns))]
     fn take(self, asked: u16, line: Line) -> Step
         requires { self.rows ≤ 32768 }
         ensures { result ≡ step asked self line }
@@ -89,38 +143,17 @@ impl State {
             Line::Empty => Step::On(self),
             Line::Columns(n) => legal(
                 early && self.columns.is_none() && (asked == 0 || n == asked),
-                State {
-                    columns: Some(n),
-                    ..self
-                },
+                self.with_columns(n),
             ),
-            Line::Output => legal(
-                early && !self.output,
-                State {
-                    output: true,
-                    ..self
-                },
-            ),
+            Line::Output => legal(early && !self.output, self.with_output()),
             Line::Typed(kind) => legal(
                 early && self.kind.is_none() && allows_kind(asked, kind),
-                State {
-                    kind: Some(kind),
-                    ..self
-                },
+                self.with_kind(kind),
             ),
-            Line::Count(n) => legal(
-                early && self.count.is_none(),
-                State {
-                    count: Some(n),
-                    ..self
-                },
-            ),
+            Line::Count(n) => legal(early && self.count.is_none(), self.with_count(n)),
             Line::Row(signs, _, out) => legal(
                 self.columns == Some(signs) && self.output && allows_out(asked, out),
-                State {
-                    rows: self.rows + 1,
-                    ..self
-                },
+                self.with_row(),
             ),
             Line::End => Step::Ended,
             Line::Bad => Step::Fault,
