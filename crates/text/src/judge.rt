@@ -168,10 +168,7 @@ impl State {
         let Some(columns) = self.columns else {
             return Err(k);
         };
-        let counted = match self.count {
-            Some(n) => n == self.rows,
-            None => true,
-        };
+        let counted = self.count.is_none_or(|n| n == self.rows);
         if !self.output || !counted {
             return Err(k);
         }
