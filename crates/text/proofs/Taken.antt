@@ -9,7 +9,7 @@ use lib.Dec.{eqb, leb, eqb-suc-zero}
 use lib.ListN.{length, set, length-map}
 use lib.Seq.{sets}
 use borrow.Author.Tests.{le-leb, lt-leb, ne_eqb, leb-true}
-use Rattle.std.specs.Prelude.{Result, Ok, Err, Some, None}
+use Rattle.std.specs.Prelude.{Result, Ok, Err, Some, None, MatchResult, is_ok}
 use Rattle.rule.specs.Number.{cube_number, signs}
 use Rattle.rule.specs.Refusal.{first_broken, number_of, refusal_of}
 use Rattle.rule.specs.Rows as Rows
@@ -167,6 +167,22 @@ good-outcome (fault j) x e = absurd (cc)
 -- A refusal is what it refuses by and what it returns.
 pub refused_is : (x : Refused) {r : Refusal} {k : ℕ} → x.refusal ≡ r → x.returned ≡ k → x ≡ record { refusal = r; returned = k }
 refused_is x e d = λ i. record { refusal = e i; returned = d i }
+
+-- What the judging told, from what `map_err` made of it.
+abbrev without_refusal : Result Shape Refused → Result Shape ℕ
+without_refusal (Ok x) = Ok x
+without_refusal (Err e) = Err 0
+
+pub told-Ok : (r : Result Shape ℕ) (x : Shape) → MatchResult r (λ y. ◌≡◌ {A = Result Shape Refused} (Ok x) (Ok y)) (λ k. ⊥)
+    → Ok x ≡ r
+told-Ok (Ok y) x q = ap without_refusal q
+told-Ok (Err k) x q = absurd q
+
+pub told-Err : (r : Result Shape ℕ) (P : Shape → Type 0) (Q : ℕ → Type 0) (x : Refused) → false ≡ is_ok r → MatchResult r P Q
+    → ((k : ℕ) → Q k → (x.refusal ≡ TextFault) × (x.returned ≡ k))
+    → (k : ℕ) × (Err k ≡ r) × (x ≡ record { refusal = TextFault; returned = k })
+told-Err (Ok y) P Q x v q f = absurd (false≢true v)
+told-Err (Err k) P Q x v q f = (k, refl, refused_is x (f k q).0 (f k q).1)
 
 -- The answer, test by test.
 module _ (n : ℕ) (text : List ℕ) (room : ℕ) where

@@ -44,16 +44,13 @@ fn read_answer(columns: u16, text: &[u8], room: usize) -> Result<usize, Refused>
     if 16384 < room {
         return Err(Refusal::ListOver.returning(0));
     }
-    match judge::judge(columns, text) {
-        Err(line) => Err(Refusal::TextFault.returning(line as usize)),
-        Ok(shape) => {
-            let needed = shape.rows as usize;
-            if room < needed {
-                return Err(Refusal::ListLacks.returning(needed));
-            }
-            Ok(needed)
-        }
+    let judged = judge::judge(columns, text);
+    let shape = judged.map_err(|line| Refusal::TextFault.returning(line as usize))?;
+    let needed = shape.rows as usize;
+    if room < needed {
+        return Err(Refusal::ListLacks.returning(needed));
     }
+    Ok(needed)
 }
 
 // Reads a candidate for a function of so many columns. Refused: 1 for 0 columns or over 16, 10 for a text over 32,768 bytes, 6
