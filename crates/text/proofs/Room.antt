@@ -1,6 +1,6 @@
 -- Rooms: elements stored in two runs are stored in one, what is left of a run is still to be put, and stored elements with the
 -- rest cleared are the elements and zeros.
-use mathlib.Core.Path.{◌≡◌, refl, sym, ap, ◌∙◌}
+use mathlib.Core.Path.{◌≡◌, refl, sym, ap, ap₂, ◌∙◌}
 use mathlib.Core.List.{List, [], ◌∷◌, ◌++◌}
 use Prim.Native.Nat.{ℕ, suc, ◌+◌, ◌-◌, ◌≤◌}
 use native.Mathlib.Nat.{add-zero, sub-zero}
@@ -8,7 +8,8 @@ use native.Mathlib.Numerals.{add-one}
 use native.Mathlib.Omega.{arith}
 use lib.ListN.{length, take, drop, set, replicate, length-append}
 use lib.Seq.{sets, sets-eq, length-sets, take_at}
-use borrow.Rule.Slice.PartMut.{put_mid}
+use borrow.Rule.Slice.PartMut.{put_mid, Post-is}
+use Rattle.std.proofs.lemmas.List.{append_assoc}
 use Rattle.graph.specs.Entry as Entry
 use Rattle.graph.proofs.Clearing as Clearing
 use Rattle.text.specs.Room.{cleared, padded, Put}
@@ -62,6 +63,17 @@ module _ {room room' : List ℕ} {i r : ℕ} {whole : List ℕ} where
 -- One element more of a run.
 pub sets_one : (room : List ℕ) (i x : ℕ) (w : List ℕ) → sets room i (x ∷ w) ≡ sets (set room i x) (i + 1) w
 sets_one room i x w = ap (λ k. sets (set room i x) k w) (sym (add-one i))
+
+-- Elements copied into the part of a room from a place on.
+pub copied-put : (room : List ℕ) (i : ℕ) (w z : List ℕ) → i + length w ≤ length room → z ≡ w
+    → Put room i w (put_mid i (i + length w - i) room z) (i + length w)
+copied-put room i w z h e =
+    record {
+      stored =
+          ap₂ (λ y t. take i room ++ (y ++ t)) e (Post-is i (i + length w) room (omega arith)) ∙
+          sym (sets-eq w room i h ∙ append_assoc (take i room) w (drop (i + length w) room));
+      next = refl;
+    }
 
 -- A room whose elements from a place on are filled with zeros.
 pub filled-cleared : (c : ℕ) (s z : List ℕ) → z ≡ replicate (length (take (length s - c) (drop c s))) 0

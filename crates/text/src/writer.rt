@@ -27,9 +27,9 @@ impl Writer<'_> {
         ensures same { SameRoom self.old self.new }
         ensures put { PutIn self.old word.now self.new }
     {
-        for b in word {
-            self.byte(*b);
-        }
+        let end = self.at + word.len();
+        self.room[self.at..end].copy_from_slice(word);
+        self.at = end;
     }
 
     // A number in decimal, without leading zeros.
