@@ -36,13 +36,13 @@ fn read_answer(columns: u16, text: &[u8], room: usize) -> Result<usize, Refused>
     ensures { result ≡ read_answer columns text.now room }
 {
     if columns < 1 || 16 < columns {
-        return Err(Refusal::ColumnsOver.returning(0));
+        return Err(Refusal::ColumnsOver.into());
     }
     if 32768 < text.len() {
-        return Err(Refusal::TextOver.returning(0));
+        return Err(Refusal::TextOver.into());
     }
     if 16384 < room {
-        return Err(Refusal::ListOver.returning(0));
+        return Err(Refusal::ListOver.into());
     }
     let judged = judge::judge(columns, text);
     let shape = judged.map_err(|line| Refusal::TextFault.returning(line as usize))?;

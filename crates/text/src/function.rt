@@ -83,10 +83,10 @@ fn build_function(text: &[u8], table: &mut TableMut<'_>, kind: Kind) -> Result<F
     ensures built { BuiltIn table.old (kind_of kind) (rows_in table.old.columns (lines text.now)) table.new result }
 {
     let Some((lower, upper)) = name_roots(text, table, kind) else {
-        return Err(Refusal::NodesLack.returning(0));
+        return Err(Refusal::NodesLack.into());
     };
     if !table.reading().within_from(0, lower, upper) {
-        return Err(Refusal::OnAndOff.returning(0));
+        return Err(Refusal::OnAndOff.into());
     }
     Ok(Function {
         columns: table.columns,
@@ -125,11 +125,11 @@ pub fn read_function(
     ensures { ReadsFunction text.now level.old low.old high.old level.new low.new high.new result }
 {
     if 32768 < text.len() {
-        return Err(Refusal::TextOver.returning(0));
+        return Err(Refusal::TextOver.into());
     }
     let size = level.len();
     if low.len() != size || high.len() != size || 4096 < size {
-        return Err(Refusal::TableOver.returning(0));
+        return Err(Refusal::TableOver.into());
     }
     let shape = match judge::judge(0, text) {
         Ok(shape) => shape,

@@ -90,10 +90,10 @@ fn answer(columns: u16, list: &[u32], room: usize) -> Result<usize, Refused>
     ensures { result ≡ write_answer columns list.now room }
 {
     if columns < 1 || 16 < columns {
-        return Err(Refusal::ColumnsOver.returning(0));
+        return Err(Refusal::ColumnsOver.into());
     }
     if 16384 < list.len() {
-        return Err(Refusal::ListOver.returning(0));
+        return Err(Refusal::ListOver.into());
     }
     if let Some(place) = cube::first_malformed(columns, list) {
         return Err(Refusal::CubeMalformed.returning(place));

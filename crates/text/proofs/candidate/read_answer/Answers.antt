@@ -13,7 +13,7 @@ returns-in_err-shape c =
 
 pub returns-then-room-needed : goal.returns-then-room-needed
 returns-then-room-needed c =
-    ap Err (refused_is c.returning-then-room-needed.result c.returning-then-room-needed.ensures.refusal c.returning-then-room-needed.ensures.returned) ∙
+    ap Err (refused_is c.returning.result c.returning.ensures.refusal c.returning.ensures.returned) ∙
     room-short _ _ _ c.if-columns-lt1.false c.if-columns-gt16.false c.if-text-gt32768.false c.if-room-gt16384.false c.in_ok-shape.shape
     (told-Ok _ _ c.in_ok-shape.ensures.cases ∙ c.judge-judged.ensures) c.if-room-needed.true
 

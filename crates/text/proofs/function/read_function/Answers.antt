@@ -11,13 +11,13 @@ use Rattle.text.proofs.function.read_function.Goals as goal
 pub returns-then-text-gt32768 : goal.returns-then-text-gt32768
 unfolding refusal_of
 returns-then-text-gt32768 c =
-    rw (refused_is c.returning.result c.returning.ensures.refusal c.returning.ensures.returned) (text-over _ _ _ _ c.if-text-gt32768.true)
+    rw (refused_is c.into.result c.into.ensures.0 c.into.ensures.1) (text-over _ _ _ _ c.if-text-gt32768.true)
 
 pub returns-then-low-size : goal.returns-then-low-size
 unfolding refusal_of
 returns-then-low-size c =
-    let r = c.returning-then-low-size in
-    rw (refused_is r.result r.ensures.refusal r.ensures.returned)
+    let r = c.into-then-low-size in
+    rw (refused_is r.result r.ensures.0 r.ensures.1)
     (elim c.then-low-size.branch [
       | then-low-size-via-then-low-size w ↦ low_differs _ _ _ _ c.if-text-gt32768.false w.if-low-size.true
       | then-low-size-via-else-low-size+then-high-size w ↦
@@ -29,7 +29,7 @@ returns-then-low-size c =
 pub returns-in-Err : goal.returns-in-Err
 unfolding refusal_of
 returns-in-Err c =
-    rw (refused_is c.returning-in-Err.result c.returning-in-Err.ensures.refusal c.returning-in-Err.ensures.returned)
+    rw (refused_is c.returning.result c.returning.ensures.refusal c.returning.ensures.returned)
     (fault-told _ _ _ _ c.if-text-gt32768.false c.if-low-size.false c.if-high-size.false c.if-size-gt4096.false _
     (sym c.in-Err.is ∙ c.judge.ensures) _ _ _ (zeros_left _ _ (c.fill.ensures.after (λ y e. e)))
     (zeros_left _ _ (c.fill-in-Err.ensures.after (λ y e. e))) (zeros_left _ _ (c.fill-in-Err-2.ensures.after (λ y e. e))))

@@ -13,7 +13,7 @@ pub returns-then-columns-lt1 : goal.returns-then-columns-lt1
 returns-then-columns-lt1 c =
     let n = c.args.columns in
     let xs = c.args.list.now in
-    let e = given c.returning.ensures.refusal c.returning.ensures.returned in
+    let e = given c.into.ensures.0 c.into.ensures.1 in
     elim c.then-columns-lt1.branch [
       | then-columns-lt1-via-then-columns-lt1 w ↦ e ∙ no_columns n xs c.args.room w.if-columns-lt1.true
       | then-columns-lt1-via-else-columns-lt1+then-columns-gt16 w ↦ e ∙ over-columns n xs c.args.room w.if-columns-lt1.false w.if-columns-gt16.true
@@ -21,15 +21,15 @@ returns-then-columns-lt1 c =
 
 pub returns-then-list-gt16384 : goal.returns-then-list-gt16384
 returns-then-list-gt16384 c =
-    let g = c.returning-then-list-gt16384.ensures in
-    given g.refusal g.returned ∙
+    let g = c.into-then-list-gt16384.ensures in
+    given g.0 g.1 ∙
     over-list c.args.columns c.args.list.now c.args.room c.if-columns-lt1.false c.if-columns-gt16.false c.if-list-gt16384.true
 
 pub returns-in-Some : goal.returns-in-Some
 returns-in-Some c =
     let n = c.args.columns in
     let xs = c.args.list.now in
-    let g = c.returning-in-Some.ensures in
+    let g = c.returning.ensures in
     let h = some_number_some (first_malformed n xs) c.in-Some.place (sym c.first_malformed.ensures ∙ c.in-Some.is) in
     given g.refusal (g.returned ∙ sym h.0) ∙
     has_malformed n xs c.args.room c.if-columns-lt1.false c.if-columns-gt16.false c.if-list-gt16384.false (λ z. omega (arith, h))
