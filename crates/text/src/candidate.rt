@@ -53,9 +53,9 @@ fn read_answer(columns: u16, text: &[u8], room: usize) -> Result<usize, Refused>
     Ok(needed)
 }
 
-// Reads a candidate for a function of so many columns. Refused: 1 for 0 columns or over 16, 10 for a text over 32,768 bytes, 6
-// for a list room over 16,384, and the room is as it was; 11 with the line of the first fault, 8 with the number of rows, and
-// the room is zero. Done: the cubes in order, and zeros past them.
+// Reads a candidate for a function of so many columns. Refused: `ColumnsOver` for 0 columns or over 16, `TextOver` for a text
+// over 32,768 bytes, `ListOver` for a list room over 16,384, and the room is as it was; `TextFault` with the line of the first
+// fault, `ListLacks` with the number of rows, and the room is zero. Done: the cubes in order, and zeros past them.
 pub fn read_candidate(columns: u16, text: &[u8], room: &mut [u32]) -> Result<usize, Refused>
     ensures { Read columns text.now room.old room.new result }
 {

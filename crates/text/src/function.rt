@@ -112,9 +112,10 @@ fn settle_function(text: &[u8], table: &mut TableMut<'_>, kind: Kind) -> Result<
     built
 }
 
-// Reads a function text into a table. Refused: 10 for a text over 32,768 bytes, 2 for slices of different lengths or over
-// 4,096, and the table is as it was; 11 with the line of the first fault, 7 if the nodes do not fit, 12 if in fr a point is both
-// on and off, and the table is zero. Done: the columns, the count of records, L and U, and zeros past the records.
+// Reads a function text into a table. Refused: `TextOver` for a text over 32,768 bytes, `TableOver` for slices of different
+// lengths or over 4,096, and the table is as it was; `TextFault` with the line of the first fault, `NodesLack` if the nodes do
+// not fit, `OnAndOff` if in fr a point is both on and off, and the table is zero. Done: the columns, the count of records, L and
+// U, and zeros past the records.
 // Kept: three slices and no lent table, since the columns and the count are what the text says.
 pub fn read_function(
     text: &[u8],

@@ -121,8 +121,9 @@ fn put_text(columns: u16, list: &[u32], room: &mut [u8])
     writer.clear_rest();
 }
 
-// Writes a list of cubes as text. Refused: 1 for 0 columns or over 16, 6 for over 16,384 cubes, 9 with the position of the
-// first malformed cube, 13 with the bytes needed; then the room is as it was. Done: the text, and zeros past it.
+// Writes a list of cubes as text. Refused: `ColumnsOver` for 0 columns or over 16, `ListOver` for over 16,384 cubes,
+// `CubeMalformed` with the position of the first malformed cube, `TextLacks` with the bytes needed; then the room is as it was.
+// Done: the text, and zeros past it.
 pub fn write_list(columns: u16, list: &[u32], room: &mut [u8]) -> Result<usize, Refused>
     ensures { Wrote columns list.now room.old room.new result }
 {
