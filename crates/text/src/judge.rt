@@ -181,7 +181,8 @@ impl State {
 }
 
 // Judges a whole text: a function text where 0 is asked for, else a candidate for so many columns. A fault is given by its line.
-// Kept: 0 asks for a function text, as in the definition of a text's outcome, which may not change.
+// Kept: 0 asks for a function text: the definition `text.Outcome.outcome`, which may not change, takes this number, and clauses
+// cite it.
 pub fn judge(asked: u16, text: &[u8]) -> Result<Shape, u32>
     requires { length text.now ≤ 32768 }
     ensures { result ≡ judged (outcome asked text.now) }
