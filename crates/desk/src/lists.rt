@@ -24,10 +24,13 @@ fn say_list(
 {
     match entry::generate(table, lower, upper, list) {
         Err(refused) => said::say_refused(answer, refused),
-        Ok(length) => match writing::write_list(table.columns, &list[..length], answer) {
-            Ok(written) => written,
-            Err(refused) => refused.returned,
-        },
+        Ok(length) => {
+            // Nothing is refused: what was delivered is a list of the rule, and the text of 1,536 cubes fits the room.
+            let Ok(written) = writing::write_list(table.columns, &list[..length], answer) else {
+                unreachable!()
+            };
+            written
+        }
     }
 }
 

@@ -19,5 +19,6 @@ returns-in-Err-clause-says c = said_as c.say_refused.ensures (list-refused c.req
 pub returns-in-Ok-write_list-clause-says : goal.returns-in-Ok-write_list-clause-says
 returns-in-Ok-write_list-clause-says c = list-said c.requires c.generate.ensures.generates c.in-Ok.is (rw c.generate.ensures.same.columns at c.write_list.ensures) c.in-Ok-write_list.is
 
-pub returns-in-Err-write_list-clause-says : goal.returns-in-Err-write_list-clause-says
-returns-in-Err-write_list-clause-says c = absurd (never_refused c.requires c.generate.ensures.generates c.in-Ok.is (rw c.generate.ensures.same.columns at c.write_list.ensures) c.in-Err-write_list.is)
+pub unreachable-requires : goal.unreachable-requires
+unreachable-requires c =
+    never_refused c.requires c.generate.ensures.generates c.in-Ok.is (rw c.generate.ensures.same.columns at c.write_list.ensures) c.in_default.is
