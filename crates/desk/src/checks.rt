@@ -4,7 +4,7 @@ ghost use Rattle.desk.specs.Answer.{check_answer, Answers};
 ghost use Rattle.desk.specs.Judged.{Says};
 ghost use Rattle.desk.specs.Contract.{IsZero, ReadyToRead, candidate_said_of, Fits};
 
-use crate::rooms::Rooms;
+use crate::rooms::{ANSWER_ROOM, Rooms};
 use crate::said;
 use graph::table::TableRef;
 use list::check;
@@ -66,7 +66,8 @@ fn check_in(input: &[u8], rooms: &mut Rooms, answer: &mut [u8]) -> usize
 pub fn check_answer(input: &[u8], answer: &mut [u8]) -> usize
     ensures { Answers (check_answer input.now) answer.old answer.new result }
 {
-    if answer.len() < 29206 {
+    // Kept: 0 and no `None`, since the public contract (`Answers`) promises 0, and the C interface returns what this does.
+    if answer.len() < ANSWER_ROOM {
         return 0;
     }
     check_in(input, &mut Rooms::new(), answer)

@@ -4,7 +4,7 @@ ghost use Rattle.desk.specs.Answer.{list_answer, Answers};
 ghost use Rattle.desk.specs.Judged.{Says};
 ghost use Rattle.desk.specs.Contract.{IsZero, ReadyIn, list_said_of, Fits};
 
-use crate::rooms::Rooms;
+use crate::rooms::{ANSWER_ROOM, Rooms};
 use crate::said;
 use graph::build::TableMut;
 use list::entry;
@@ -67,7 +67,8 @@ fn list_in(input: &[u8], rooms: &mut Rooms, answer: &mut [u8]) -> usize
 pub fn list_answer(input: &[u8], answer: &mut [u8]) -> usize
     ensures { Answers (list_answer input.now) answer.old answer.new result }
 {
-    if answer.len() < 29206 {
+    // Kept: 0 and no `None`, since the public contract (`Answers`) promises 0, and the C interface returns what this does.
+    if answer.len() < ANSWER_ROOM {
         return 0;
     }
     list_in(input, &mut Rooms::new(), answer)

@@ -1,5 +1,8 @@
-// The rooms of a program: a table of 4,096 records and a list of 1,536 cubes.
+// The rooms of a program: a table of 4,096 records, a list of 1,536 cubes, and the size of a room for its answer.
 ghost use Rattle.desk.specs.Contract.{IsZero};
+
+// The bytes that every answer fits: a list of 1,536 rows of 16 columns.
+pub const ANSWER_ROOM: usize = 29206;
 
 #[derive(Drop)]
 pub struct Rooms {

@@ -3,8 +3,8 @@ use Rattle.desk.specs.Answer.{list_answer}
 use Rattle.desk.proofs.Prepared.{short-room, whole_room}
 use Rattle.desk.proofs.lists.list_answer.Goals as goal
 
-pub returns-then-answer-lt29206 : goal.returns-then-answer-lt29206
-returns-then-answer-lt29206 c = short-room (list_answer c.args.input.now) c.args.answer.now c.if-answer-lt29206.true
+pub returns-then-answer-lt-ANSWER_ROOM : goal.returns-then-answer-lt-ANSWER_ROOM
+returns-then-answer-lt-ANSWER_ROOM c = short-room (list_answer c.args.input.now) c.args.answer.now c.if-answer-lt-ANSWER_ROOM.true
 
 pub returns : goal.returns
-returns c = whole_room c.if-answer-lt29206.false c.list_in.ensures
+returns c = whole_room c.if-answer-lt-ANSWER_ROOM.false c.list_in.ensures
