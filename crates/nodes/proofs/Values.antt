@@ -14,9 +14,11 @@ use Rattle.nodes.specs.declared.row.Node.{Node}
 use Rattle.nodes.proofs.Refusals.{over-refused, over-case}
 
 module _ (n c : ℕ) (xs : List Node) (x p : ℕ) where
-  pub value_ran : {v l h : List ℕ} {r : Result Bool Refusal} → v ≡ levels xs → l ≡ lows xs → h ≡ highs xs → r ≡ value_answer (first_broken (value_conditions n c v l h x p)) n v l h x p → r ≡ row_value n c xs x p
+  pub value_ran : {m d : ℕ} {v l h : List ℕ} {r : Result Bool Refusal} → m ≡ n → d ≡ c → v ≡ levels xs → l ≡ lows xs → h ≡ highs xs
+      → r ≡ value_answer (first_broken (value_conditions m d v l h x p)) m v l h x p → r ≡ row_value n c xs x p
   unfolding row_value
-  value_ran a b d e = e ∙ (λ i. value_answer (first_broken (value_conditions n c (a i) (b i) (d i) x p)) n (a i) (b i) (d i) x p)
+  value_ran s t a b d e =
+      e ∙ (λ i. value_answer (first_broken (value_conditions (s i) (t i) (a i) (b i) (d i) x p)) (s i) (a i) (b i) (d i) x p)
 
   pub over_value : 4096 < length xs → row_value n c xs x p ≡ Err (refusal_of (over_refusal n))
   unfolding row_value value_conditions value_answer

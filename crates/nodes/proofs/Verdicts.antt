@@ -15,9 +15,11 @@ use Rattle.nodes.specs.declared.row.Node.{Node}
 use Rattle.nodes.proofs.Refusals.{over-refused, over-case}
 
 module _ (n c : ℕ) (xs : List Node) (a b : ℕ) (list : List ℕ) where
-  pub judge_ran : {v l h : List ℕ} {r : Result Judged Refused} → v ≡ levels xs → l ≡ lows xs → h ≡ highs xs → r ≡ answer_for n c v l h a b list (refusal n c v l h a b list) → r ≡ row_verdict n c xs a b list
+  pub judge_ran : {m d : ℕ} {v l h : List ℕ} {r : Result Judged Refused} → m ≡ n → d ≡ c → v ≡ levels xs → l ≡ lows xs → h ≡ highs xs
+      → r ≡ answer_for m d v l h a b list (refusal m d v l h a b list) → r ≡ row_verdict n c xs a b list
   unfolding row_verdict
-  judge_ran p q s e = e ∙ (λ i. answer_for n c (p i) (q i) (s i) a b list (refusal n c (p i) (q i) (s i) a b list))
+  judge_ran t u p q s e =
+      e ∙ (λ i. answer_for (t i) (u i) (p i) (q i) (s i) a b list (refusal (t i) (u i) (p i) (q i) (s i) a b list))
 
   pub over-verdict : 4096 < length xs → row_verdict n c xs a b list ≡ Err (record { refusal = refusal_of (over_refusal n); returned = 0 })
   unfolding row_verdict refusal input_conditions answer_for table_conditions

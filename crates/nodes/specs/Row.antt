@@ -1,8 +1,10 @@
 -- A row of node records, and its three lists.
 use Rattle.std.specs.Prelude.{◌≡◌, false, List, [], ◌∷◌, map, ◌++◌, ℕ, ◌-◌, leb, length, take, replicate}
 use Rattle.rule.specs.Refusal.{first_broken, columns_over, table_over}
+use Rattle.graph.specs.declared.table.TableRef.{TableRef}
 use Rattle.nodes.specs.declared.row.Node.{Node}
 use Rattle.nodes.specs.declared.row.RowMut.{RowMut}
+use Rattle.nodes.specs.declared.row.RowRef.{RowRef}
 use Rattle.nodes.specs.declared.apart.Apart.{Apart}
 
 -- The levels, the lows and the highs of a row's records.
@@ -24,6 +26,14 @@ pub record ApartOf (xs : List Node) (a : Apart) : Type 0 where
   pub level : take (length xs) a.level ≡ levels xs
   pub low : take (length xs) a.low ≡ lows xs
   pub high : take (length xs) a.high ≡ highs xs
+
+-- A table to be read holds the first numbers of three arrays, as many as the row has records.
+pub record SharesRow (a : Apart) (r : RowRef) (t : TableRef) : Type 0 where
+  pub columns : t.columns ≡ r.columns
+  pub count : t.count ≡ r.count
+  pub level : t.level.now ≡ take (length r.nodes.now) a.level
+  pub low : t.low.now ≡ take (length r.nodes.now) a.low
+  pub high : t.high.now ≡ take (length r.nodes.now) a.high
 
 -- A row's records take those numbers.
 pub record TogetherIn (a : Apart) (xs : List Node) (xs' : List Node) : Type 0 where

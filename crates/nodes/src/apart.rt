@@ -1,10 +1,12 @@
-// The records of a row as three arrays of numbers, and together again.
+// The records of a row as three arrays of numbers, lent as a table to be read, and together again.
 ghost use Rattle.std.specs.Prelude.{◌≡◌, ◌≤◌, length};
-ghost use Rattle.nodes.specs.Row.{ApartOf, TogetherIn};
+ghost use Rattle.nodes.specs.Row.{ApartOf, TogetherIn, SharesRow};
 
-use crate::row::Node;
+use crate::row::{Node, RowRef};
+use graph::table::TableRef;
 
 // The level, the low and the high number of each record; zeros past the row.
+// Kept: three arrays, since the entries take three slices, as C lends them.
 #[derive(Drop)]
 pub struct Apart {
     pub level: [u16; 4096],
@@ -29,6 +31,21 @@ impl Apart {
             apart.high[i] = node.high;
         }
         apart
+    }
+
+    // The first numbers of the arrays as a table to be read, as many as the row has records.
+    pub fn table(&self, row: RowRef<'_>) -> TableRef<'_>
+        requires { length row.nodes.now ≤ 4096 }
+        ensures { SharesRow self.now row.entry result }
+    {
+        let size = row.nodes.len();
+        TableRef {
+            columns: row.columns,
+            count: row.count,
+            level: &self.level[..size],
+            low: &self.low[..size],
+            high: &self.high[..size],
+        }
     }
 
     // The records go back into the row.

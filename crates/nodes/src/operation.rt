@@ -13,6 +13,7 @@ use graph::operation::Op;
 use rule::refusal::Refusal;
 
 // A building operation with its operands: a column, or two roots.
+// Kept: a value and no closure, since the exports' clauses name it, and say by it what is promised (`Operates`).
 #[derive(Clone, Copy)]
 pub enum Operation {
     Variable(u16),

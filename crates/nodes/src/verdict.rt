@@ -7,24 +7,16 @@ use crate::row;
 use crate::row::RowRef;
 use checker::entry;
 use checker::fault::Verdict;
-use graph::table::TableRef;
 use rule::refusal::Refused;
 
 // The verdict of the rule on any list for a lower and an upper root.
 pub fn check(row: RowRef<'_>, lower: u16, upper: u16, list: &[u32]) -> Result<Verdict, Refused>
     ensures { result ≡ verdict_in row.entry lower upper list.now }
 {
-    let size = row.nodes.len();
-    if 4096 < size {
+    if 4096 < row.nodes.len() {
         return Err(row::over_refusal(row.columns).returning(0));
     }
     let apart = Apart::of(row.nodes);
-    let table = TableRef {
-        columns: row.columns,
-        count: row.count,
-        level: &apart.level[..size],
-        low: &apart.low[..size],
-        high: &apart.high[..size],
-    };
+    let table = apart.table(row);
     entry::check(table, lower, upper, list)
 }

@@ -4,8 +4,10 @@ use Rattle.std.proofs.Common.{sym, ap, ◌∙◌, Err}
 use Rattle.nodes.proofs.Values.{value_ran, over_value}
 use Rattle.nodes.proofs.value.value.Goals as goal
 
-pub returns-then-size-gt4096 : goal.returns-then-size-gt4096
-returns-then-size-gt4096 c = ap Err c.over_refusal.ensures ∙ sym (over_value _ _ _ _ _ c.if-size-gt4096.true)
+pub returns-then-row-gt4096 : goal.returns-then-row-gt4096
+returns-then-row-gt4096 c = ap Err c.over_refusal.ensures ∙ sym (over_value _ _ _ _ _ c.if-row-gt4096.true)
 
 pub returns : goal.returns
-returns c = value_ran _ _ _ _ _ c.of-apart.ensures.level c.of-apart.ensures.low c.of-apart.ensures.high c.value.ensures
+returns c =
+    value_ran _ _ _ _ _ c.table-table.ensures.columns c.table-table.ensures.count (c.table-table.ensures.level ∙ c.of-apart.ensures.level)
+    (c.table-table.ensures.low ∙ c.of-apart.ensures.low) (c.table-table.ensures.high ∙ c.of-apart.ensures.high) c.value.ensures
