@@ -4,6 +4,7 @@ ghost use Rattle.desk.specs.Contract.{IsZero};
 // The bytes that every answer fits: a list of 1,536 rows of 16 columns.
 pub const ANSWER_ROOM: usize = 29206;
 
+// Kept: three arrays, since reading, the generator and the checker take three slices, as C lends them.
 #[derive(Drop)]
 pub struct Rooms {
     pub level: [u16; 4096],
