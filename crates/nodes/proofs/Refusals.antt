@@ -38,5 +38,5 @@ unfolding table_conditions first_broken over_refusal
 over-refused n c xs cs l = rw (third_fails (eqb (length (lows xs)) (length (levels xs))) (eqb (length (highs xs)) (length (levels xs))) (leb (length (levels xs)) 4096) (leb c (length (levels xs))) (too_long xs l)) refl
 
 -- What a refusal with nothing to return gives.
-pub refused-by : {r : Refused} {e f : Refusal} → r.refusal ≡ e → e ≡ f → r.returned ≡ 0 → r ≡ record { refusal = f; returned = 0 }
-refused-by p q z = λ i. record { refusal = (p ∙ q) i; returned = z i }
+pub refused-by : {r : Refused} {e f : Refusal} → (r.refusal ≡ e) × (r.returned ≡ 0) → e ≡ f → r ≡ record { refusal = f; returned = 0 }
+refused-by p q = λ i. record { refusal = (p.0 ∙ q) i; returned = p.1 i }

@@ -46,7 +46,7 @@ pub fn generate(
 {
     let size = row.nodes.len();
     if 4096 < size {
-        return Err(row::over_refusal(row.columns).returning(0));
+        return Err(row::over_refusal(row.columns).into());
     }
     let Apart {
         mut level,

@@ -27,7 +27,7 @@ pub fn read(text: &[u8], nodes: &mut [Node]) -> Result<Function, Refused>
 {
     let size = nodes.len();
     if 4096 < size {
-        return Err(over_text(text).returning(0));
+        return Err(over_text(text).into());
     }
     let Apart {
         mut level,

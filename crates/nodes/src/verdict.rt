@@ -14,7 +14,7 @@ pub fn check(row: RowRef<'_>, lower: u16, upper: u16, list: &[u32]) -> Result<Ve
     ensures { result ≡ verdict_in row.entry lower upper list.now }
 {
     if 4096 < row.nodes.len() {
-        return Err(row::over_refusal(row.columns).returning(0));
+        return Err(row::over_refusal(row.columns).into());
     }
     let apart = Apart::of(row.nodes);
     let table = apart.table(row);

@@ -8,9 +8,7 @@ use Rattle.nodes.proofs.Refusals.{refused-by}
 use Rattle.nodes.proofs.generator.generate.Goals as goal
 
 pub returns-then-size-gt4096-clause-generates : goal.returns-then-size-gt4096-clause-generates
-returns-then-size-gt4096-clause-generates c =
-    rw (refused-by c.returning.ensures.refusal c.over_refusal.ensures c.returning.ensures.returned)
-    (over-generates _ _ _ _ _ _ c.if-size-gt4096.true)
+returns-then-size-gt4096-clause-generates c = rw (refused-by c.into.ensures c.over_refusal.ensures) (over-generates _ _ _ _ _ _ c.if-size-gt4096.true)
 
 pub returns-clause-generates : goal.returns-clause-generates
 unfolding levels lows highs

@@ -8,9 +8,7 @@ use Rattle.nodes.proofs.Refusals.{refused-by}
 use Rattle.nodes.proofs.reading.read.Goals as goal
 
 pub returns-then-size-gt4096 : goal.returns-then-size-gt4096
-returns-then-size-gt4096 c =
-    rw (refused-by c.returning.ensures.refusal c.over_text.ensures c.returning.ensures.returned)
-    (over-reads _ _ c.if-size-gt4096.true)
+returns-then-size-gt4096 c = rw (refused-by c.into.ensures c.over_text.ensures) (over-reads _ _ c.if-size-gt4096.true)
 
 pub returns : goal.returns
 unfolding levels lows highs

@@ -6,9 +6,7 @@ use Rattle.nodes.proofs.Verdicts.{judge_ran, over-verdict}
 use Rattle.nodes.proofs.verdict.check.Goals as goal
 
 pub returns-then-row-gt4096 : goal.returns-then-row-gt4096
-returns-then-row-gt4096 c =
-    ap Err (refused-by c.returning.ensures.refusal c.over_refusal.ensures c.returning.ensures.returned) ∙
-    sym (over-verdict _ _ _ _ _ _ c.if-row-gt4096.true)
+returns-then-row-gt4096 c = ap Err (refused-by c.into.ensures c.over_refusal.ensures) ∙ sym (over-verdict _ _ _ _ _ _ c.if-row-gt4096.true)
 
 pub returns : goal.returns
 returns c =
