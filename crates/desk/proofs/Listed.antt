@@ -31,8 +31,7 @@ use Rattle.text.proofs.Written.{length_text, all-kept, fitting}
 use Rattle.desk.specs.Said.{refused_text}
 use Rattle.desk.specs.Answer.{answer_by, rows_list, list_refusal, list_said, list_answer, answer_room}
 use Rattle.desk.specs.Judged.{refusal_text, Says}
-use Rattle.desk.specs.Contract.{Fits, IsZero, Ready}
-use Rattle.desk.specs.declared.rooms.Rooms.{Rooms}
+use Rattle.desk.specs.Contract.{Fits, Ready}
 use Rattle.desk.proofs.Reading.{kept_first, ReadRows}
 use Rattle.desk.proofs.Prepared.{ready_of, input_kept}
 
@@ -171,20 +170,20 @@ module _ {n c : ℕ} {v l h : List ℕ} {a b : ℕ} {list answer : List ℕ} (r 
         never_refused f = let i = sym f ∙ written_is in cc
 
 -- What is said of the rows that were read.
-pub rows-listed : {input v l h : List ℕ} {n c a b : ℕ} {rooms : Rooms} (answer : List ℕ) → IsZero rooms → ReadRows input v l h n c a b → Fits answer
-    → list_said n (the_list n c v l h a b rooms.list) (refusal n c v l h a b rooms.list) ≡ list_answer input
+pub rows-listed : {input v l h list : List ℕ} {n c a b : ℕ} (answer : List ℕ) → list ≡ replicate 1536 0 → ReadRows input v l h n c a b → Fits answer
+    → list_said n (the_list n c v l h a b list) (refusal n c v l h a b list) ≡ list_answer input
 unfolding list_answer answer_by the_list lower upper rows_list room_conditions list_refusal
-rows-listed {input} {v} {l} {h} {n} {c} {a} {b} {rooms} answer z r f =
+rows-listed {input} {v} {l} {h} {list} {n} {c} {a} {b} answer z r f =
     ap₂ (list_said n) the-list the_refusal ∙
     ap₂ (λ q w. answer_by input q w (λ n t rows. list_said n (rows_list n t rows) (list_refusal n t rows))) (sym r.kept) (sym r.told)
   where
-    ready : Ready n c v l h a b rooms.list answer
+    ready : Ready n c v l h a b list answer
     ready = ready_of z r f
 
-    the-list : the_list n c v l h a b rooms.list ≡ rows_list n r.kind r.rows
+    the-list : the_list n c v l h a b list ≡ rows_list n r.kind r.rows
     the-list = ap₂ (list_numbers n) r.on.means r.on_or_dc.means
 
-    the_refusal : refusal n c v l h a b rooms.list ≡ list_refusal n r.kind r.rows
+    the_refusal : refusal n c v l h a b list ≡ list_refusal n r.kind r.rows
     the_refusal =
         by_rooms ready ∙
         (λ i. first_broken (

@@ -6,7 +6,7 @@ use mathlib.Core.Logic.{◌⊎◌, inl, inr}
 use Prim.Native.Nat.{ℕ, ◌+◌, ◌-◌, ◌≤◌, ◌<◌}
 use native.Mathlib.Omega.{arith}
 use lib.Dec.{ltb}
-use lib.ListN.{length, length-replicate}
+use lib.ListN.{length, replicate, length-replicate}
 use borrow.Author.Tests.{le-leb, lt-leb, lt-ltb, ltb-true}
 use Rattle.rule.specs.Func.{within}
 use Rattle.rule.specs.Refusal.{first_broken}
@@ -17,8 +17,7 @@ use Rattle.graph.proofs.Entries.{both_in}
 use Rattle.graph.proofs.Roots.{good_input}
 use Rattle.desk.specs.Answer.{answer_room, Answers}
 use Rattle.desk.specs.Judged.{Says}
-use Rattle.desk.specs.Contract.{Fits, IsZero, Ready}
-use Rattle.desk.specs.declared.rooms.Rooms.{Rooms}
+use Rattle.desk.specs.Contract.{Fits, Ready}
 use Rattle.desk.proofs.Reading.{ReadRows}
 
 -- A number in use is in range.
@@ -32,15 +31,15 @@ in-range T c x e = go (or_true (ltb x 2) (ltb (x - 2) c && not (ltb (T.level (x 
         let s : x - 2 < c = ltb-true (x - 2) c (and_left (ltb (x - 2) c) (not (ltb (T.level (x - 2)) 0)) u) in
         lt-ltb x (c + 2) (omega arith)
 
-pub ready_of : {input v l h answer : List ℕ} {n c a b : ℕ} {rooms : Rooms} → IsZero rooms → ReadRows input v l h n c a b → Fits answer
-    → Ready n c v l h a b rooms.list answer
+pub ready_of : {input v l h list answer : List ℕ} {n c a b : ℕ} → list ≡ replicate 1536 0 → ReadRows input v l h n c a b → Fits answer
+    → Ready n c v l h a b list answer
 ready_of {n = n} z r f =
     record {
       some = r.some;
       roots = record { sound = r.sound; column = omega arith; first = r.on.number; second = r.on_or_dc.number };
       inside = ap₂ (within n) r.on.means r.on_or_dc.means ∙ r.inside;
       level = r.level;
-      cubes = ap length z.list ∙ length-replicate {A = ℕ} 1536 0;
+      cubes = ap length z ∙ length-replicate {A = ℕ} 1536 0;
       bytes = f;
     }
 

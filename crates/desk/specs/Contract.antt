@@ -1,16 +1,17 @@
 -- What the inner functions of the two programs ask and promise.
-use Rattle.std.specs.Prelude.{◌≡◌, true, List, ℕ, zero, suc, ◌≤◌, length, replicate}
+use Rattle.std.specs.Prelude.{◌≡◌, true, List, ℕ, zero, suc, ◌≤◌, length, replicate, Result}
 use Rattle.rule.specs.Func.{Fn, within}
 use Rattle.rule.specs.Refusal.{first_broken}
 use Rattle.rule.specs.Verdict.{verdict_numbers}
+use Rattle.rule.specs.declared.refusal.Refused.{Refused}
 use Rattle.graph.specs.Sound.{RootedTwice}
 use Rattle.graph.specs.Table.{table_of, fn_of}
-use Rattle.graph.specs.declared.build.TableMut.{TableMut}
-use Rattle.graph.specs.declared.table.TableRef.{TableRef}
 use Rattle.list.specs.Entry.{the_list, refusal}
 use Rattle.line.specs.Meaning.{after_end}
 use Rattle.text.specs.Outcome.{outcome}
 use Rattle.text.specs.Candidate.{cubes_of, read_conditions, read_returns}
+use Rattle.text.specs.Function.{ReadsFunction}
+use Rattle.text.specs.declared.function.Function.{Function}
 use Rattle.desk.specs.Said.{refused_text, verdict_text}
 use Rattle.desk.specs.Answer.{answer_room, list_said}
 use Rattle.desk.specs.declared.rooms.Rooms.{Rooms}
@@ -40,20 +41,21 @@ unfoldable pub candidate_for : (n : ℕ) → Fn n → Fn n → List ℕ → ℕ 
 candidate_for n L U text zero = verdict_text n (verdict_numbers n L U (cubes_of (outcome n text)))
 candidate_for n L U text (suc r) = refused_text (suc r) (read_returns (outcome n text) (suc r))
 
--- The same of a lent table: what is ready, and what is said.
-abbrev pub ReadyIn : TableMut → ℕ → ℕ → List ℕ → List ℕ → Type 0
-ReadyIn t a b list answer = Ready t.columns t.count t.level.now t.low.now t.high.now a b list answer
+-- What reading leaves in the rooms.
+abbrev pub ReadsInto : List ℕ → Rooms → Rooms → Result Function Refused → Type 0
+ReadsInto input r r' a = ReadsFunction input r.level r.low r.high r'.level r'.low r'.high a
 
-abbrev pub ReadyToRead : TableRef → ℕ → ℕ → List ℕ → List ℕ → Type 0
-ReadyToRead t a b list answer = Ready t.columns t.count t.level.now t.low.now t.high.now a b list answer
+-- The same of a function in the rooms: what is ready, and what is said.
+abbrev pub ReadyIn : Function → Rooms → List ℕ → Type 0
+ReadyIn f r answer = Ready f.columns f.count r.level r.low r.high f.lower f.upper r.list answer
 
-abbrev pub list_said_of : TableMut → ℕ → ℕ → List ℕ → List ℕ
-list_said_of t a b list =
-    list_said t.columns (the_list t.columns t.count t.level.now t.low.now t.high.now a b list)
-    (refusal t.columns t.count t.level.now t.low.now t.high.now a b list)
+abbrev pub list_said_of : Function → Rooms → List ℕ
+list_said_of f r =
+    list_said f.columns (the_list f.columns f.count r.level r.low r.high f.lower f.upper r.list)
+    (refusal f.columns f.count r.level r.low r.high f.lower f.upper r.list)
 
-abbrev pub candidate_said_of : TableRef → ℕ → ℕ → List ℕ → List ℕ
-candidate_said_of t a b input =
-    let T = table_of t.level.now t.low.now t.high.now in
-    candidate_for t.columns (fn_of T 0 t.columns a) (fn_of T 0 t.columns b) (after_end input)
-    (first_broken (read_conditions t.columns (after_end input) 1536))
+abbrev pub candidate_said_of : Function → Rooms → List ℕ → List ℕ
+candidate_said_of f r input =
+    let T = table_of r.level r.low r.high in
+    candidate_for f.columns (fn_of T 0 f.columns f.lower) (fn_of T 0 f.columns f.upper) (after_end input)
+    (first_broken (read_conditions f.columns (after_end input) 1536))

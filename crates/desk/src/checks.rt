@@ -2,30 +2,31 @@
 ghost use Rattle.std.specs.Prelude.{◌≤◌, length};
 ghost use Rattle.desk.specs.Answer.{check_answer, Answers};
 ghost use Rattle.desk.specs.Judged.{Says};
-ghost use Rattle.desk.specs.Contract.{IsZero, ReadyToRead, candidate_said_of, Fits};
+ghost use Rattle.desk.specs.Contract.{IsZero, ReadyIn, candidate_said_of, Fits};
 
 use crate::rooms::{ANSWER_ROOM, Rooms};
 use crate::said;
 use graph::table::TableRef;
 use list::check;
-use text::{candidate, ending, function};
+use text::function::Function;
+use text::{candidate, ending};
 
-// The verdict on the candidate after the function text, or the candidate's refusal.
-fn say_verdict(
-    input: &[u8],
-    table: TableRef<'_>,
-    lower: u16,
-    upper: u16,
-    list: &mut [u32],
-    answer: &mut [u8],
-) -> usize
+// The verdict on the candidate after the function text, for the function in the rooms, or the candidate's refusal.
+fn say_verdict(input: &[u8], function: Function, rooms: &mut Rooms, answer: &mut [u8]) -> usize
     requires input { length input.now ≤ 32768 }
-    requires ready { ReadyToRead table lower upper list.old answer.old }
-    ensures { Says (candidate_said_of table.entry lower upper input.now) answer.old answer.new result }
+    requires ready { ReadyIn function rooms.old answer.old }
+    ensures { Says (candidate_said_of function rooms.old input.now) answer.old answer.new result }
 {
-    match candidate::read_candidate(table.columns, ending::after_end(input), list) {
+    let table = TableRef {
+        columns: function.columns,
+        count: function.count,
+        level: &rooms.level,
+        low: &rooms.low,
+        high: &rooms.high,
+    };
+    match candidate::read_candidate(table.columns, ending::after_end(input), &mut rooms.list) {
         Err(refused) => said::say_refused(answer, refused),
-        Ok(rows) => match check::check(table, lower, upper, &list[..rows]) {
+        Ok(rows) => match check::check(table, function.lower, function.upper, &rooms.list[..rows]) {
             Err(refused) => said::say_refused(answer, refused),
             Ok(verdict) => said::say_judged(answer, table.columns, verdict),
         },
@@ -38,26 +39,9 @@ fn check_in(input: &[u8], rooms: &mut Rooms, answer: &mut [u8]) -> usize
     requires answer { Fits answer.old }
     ensures { Says (check_answer input.now) answer.old answer.new result }
 {
-    let read = function::read_function(input, &mut rooms.level, &mut rooms.low, &mut rooms.high);
-    match read {
+    match rooms.read(input) {
         Err(refused) => said::say_refused(answer, refused),
-        Ok(function) => {
-            let table = TableRef {
-                columns: function.columns,
-                count: function.count,
-                level: &rooms.level,
-                low: &rooms.low,
-                high: &rooms.high,
-            };
-            say_verdict(
-                input,
-                table,
-                function.lower,
-                function.upper,
-                &mut rooms.list,
-                answer,
-            )
-        }
+        Ok(function) => say_verdict(input, function, rooms, answer),
     }
 }
 

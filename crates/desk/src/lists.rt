@@ -1,5 +1,4 @@
 // The first program: the list of a function text, or a refusal.
-ghost use Rattle.graph.specs.Lent.{SameSlices};
 ghost use Rattle.desk.specs.Answer.{list_answer, Answers};
 ghost use Rattle.desk.specs.Judged.{Says};
 ghost use Rattle.desk.specs.Contract.{IsZero, ReadyIn, list_said_of, Fits};
@@ -8,25 +7,27 @@ use crate::rooms::{ANSWER_ROOM, Rooms};
 use crate::said;
 use graph::build::TableMut;
 use list::entry;
-use text::{function, writing};
+use text::function::Function;
+use text::writing;
 
-// The list for a lower and an upper root, or its refusal.
-fn say_list(
-    table: &mut TableMut<'_>,
-    lower: u16,
-    upper: u16,
-    list: &mut [u32],
-    answer: &mut [u8],
-) -> usize
-    requires { ReadyIn table.old lower upper list.old answer.old }
-    ensures same { SameSlices table.old table.new }
-    ensures says { Says (list_said_of table.old lower upper list.old) answer.old answer.new result }
+// The list of the function in the rooms, or its refusal.
+fn say_list(function: Function, rooms: &mut Rooms, answer: &mut [u8]) -> usize
+    requires { ReadyIn function rooms.old answer.old }
+    ensures { Says (list_said_of function rooms.old) answer.old answer.new result }
 {
-    match entry::generate(table, lower, upper, list) {
+    let mut table = TableMut {
+        columns: function.columns,
+        count: function.count,
+        level: &mut rooms.level,
+        low: &mut rooms.low,
+        high: &mut rooms.high,
+    };
+    match entry::generate(&mut table, function.lower, function.upper, &mut rooms.list) {
         Err(refused) => said::say_refused(answer, refused),
         Ok(length) => {
             // Nothing is refused: what was delivered is a list of the rule, and the text of 1,536 cubes fits the room.
-            let Ok(written) = writing::write_list(table.columns, &list[..length], answer) else {
+            let Ok(written) = writing::write_list(function.columns, &rooms.list[..length], answer)
+            else {
                 unreachable!()
             };
             written
@@ -40,25 +41,9 @@ fn list_in(input: &[u8], rooms: &mut Rooms, answer: &mut [u8]) -> usize
     requires answer { Fits answer.old }
     ensures { Says (list_answer input.now) answer.old answer.new result }
 {
-    let read = function::read_function(input, &mut rooms.level, &mut rooms.low, &mut rooms.high);
-    match read {
+    match rooms.read(input) {
         Err(refused) => said::say_refused(answer, refused),
-        Ok(function) => {
-            let mut table = TableMut {
-                columns: function.columns,
-                count: function.count,
-                level: &mut rooms.level,
-                low: &mut rooms.low,
-                high: &mut rooms.high,
-            };
-            say_list(
-                &mut table,
-                function.lower,
-                function.upper,
-                &mut rooms.list,
-                answer,
-            )
-        }
+        Ok(function) => say_list(function, rooms, answer),
     }
 }
 

@@ -1,5 +1,6 @@
 -- `desk::checks::check_in` meets its contract: what reading the function text refuses is said first, and a candidate for what it reads
 -- is judged.
+use mathlib.Core.Path.{◌∙◌}
 use native.Mathlib.Omega.{arith}
 use Rattle.desk.specs.Answer.{check_answer}
 use Rattle.desk.proofs.Saying.{said_as}
@@ -9,17 +10,17 @@ use Rattle.desk.proofs.Checked.{rows_checked}
 use Rattle.desk.proofs.checks.check_in.Goals as goal
 
 pub say_refused-requires-clause-returned : goal.say_refused-requires-clause-returned
-say_refused-requires-clause-returned c = omega (arith, value_small c.requires.rooms c.read_function-read.ensures c.in-Err.is)
+say_refused-requires-clause-returned c = omega (arith, value_small c.requires.rooms c.read.ensures.reads c.in-Err.is)
 
 pub say_verdict-requires-clause-input : goal.say_verdict-requires-clause-input
-say_verdict-requires-clause-input c = (text_read c.requires.rooms c.read_function-read.ensures c.in-Ok.is).short
+say_verdict-requires-clause-input c = (text_read c.requires.rooms c.read.ensures.reads c.in-Ok.is).short
 
 pub say_verdict-requires-clause-ready : goal.say_verdict-requires-clause-ready
-say_verdict-requires-clause-ready c = ready_of c.requires.rooms (text_read c.requires.rooms c.read_function-read.ensures c.in-Ok.is) c.requires.answer
+say_verdict-requires-clause-ready c = ready_of (c.read.ensures.list ∙ c.requires.rooms.list) (text_read c.requires.rooms c.read.ensures.reads c.in-Ok.is) c.requires.answer
 
 pub returns-in-Err : goal.returns-in-Err
 unfolding check_answer
-returns-in-Err c = said_as c.say_refused.ensures (text_refused c.requires.rooms c.read_function-read.ensures c.in-Err.is _)
+returns-in-Err c = said_as c.say_refused.ensures (text_refused c.requires.rooms c.read.ensures.reads c.in-Err.is _)
 
 pub returns-in-Ok : goal.returns-in-Ok
-returns-in-Ok c = said_as c.say_verdict.ensures (rows_checked (text_read c.requires.rooms c.read_function-read.ensures c.in-Ok.is))
+returns-in-Ok c = said_as c.say_verdict.ensures (rows_checked (text_read c.requires.rooms c.read.ensures.reads c.in-Ok.is))

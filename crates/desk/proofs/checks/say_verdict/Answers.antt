@@ -9,12 +9,12 @@ pub say_refused-requires-clause-returned : goal.say_refused-requires-clause-retu
 say_refused-requires-clause-returned c =
     omega (arith, value_small c.args.input.now c.requires.ready c.requires.input c.after_end.ensures c.read_candidate.ensures c.in-Err.is)
 
+pub shared_ref_as_front-check : goal.shared_ref_as_front-check
+shared_ref_as_front-check c =
+    omega (arith, stands_inside c.args.input.now c.requires.ready c.requires.input c.after_end.ensures c.read_candidate.ensures c.in-Ok.is)
+
 pub slice_bounds-check-end : goal.slice_bounds-check-end
 slice_bounds-check-end c =
-    stands_inside c.args.input.now c.requires.ready c.requires.input c.after_end.ensures c.read_candidate.ensures c.in-Ok.is
-
-pub slice_bounds-check-end-in-Ok : goal.slice_bounds-check-end-in-Ok
-slice_bounds-check-end-in-Ok c =
     stands_long c.args.input.now c.requires.ready c.requires.input c.after_end.ensures c.read_candidate.ensures c.in-Ok.is
 
 pub say_refused-requires-in-Err-check-clause-returned : goal.say_refused-requires-in-Err-check-clause-returned

@@ -1,4 +1,5 @@
 -- `desk::lists::list_in` meets its contract: what reading refuses is said first, and what it reads is listed.
+use mathlib.Core.Path.{◌∙◌}
 use native.Mathlib.Omega.{arith}
 use Rattle.desk.specs.Answer.{list_answer}
 use Rattle.desk.proofs.Saying.{said_as}
@@ -8,16 +9,16 @@ use Rattle.desk.proofs.Listed.{rows-listed}
 use Rattle.desk.proofs.lists.list_in.Goals as goal
 
 pub say_refused-requires-clause-returned : goal.say_refused-requires-clause-returned
-say_refused-requires-clause-returned c = omega (arith, value_small c.requires.rooms c.read_function-read.ensures c.in-Err.is)
+say_refused-requires-clause-returned c = omega (arith, value_small c.requires.rooms c.read.ensures.reads c.in-Err.is)
 
 pub say_list-requires : goal.say_list-requires
-say_list-requires c = ready_of c.requires.rooms (text_read c.requires.rooms c.read_function-read.ensures c.in-Ok.is) c.requires.answer
+say_list-requires c = ready_of (c.read.ensures.list ∙ c.requires.rooms.list) (text_read c.requires.rooms c.read.ensures.reads c.in-Ok.is) c.requires.answer
 
 pub returns-in-Err : goal.returns-in-Err
 unfolding list_answer
-returns-in-Err c = said_as c.say_refused.ensures (text_refused c.requires.rooms c.read_function-read.ensures c.in-Err.is _)
+returns-in-Err c = said_as c.say_refused.ensures (text_refused c.requires.rooms c.read.ensures.reads c.in-Err.is _)
 
 pub returns-in-Ok : goal.returns-in-Ok
 returns-in-Ok c =
-    said_as c.say_list.ensures.says
-    (rows-listed c.args.answer.now c.requires.rooms (text_read c.requires.rooms c.read_function-read.ensures c.in-Ok.is) c.requires.answer)
+    said_as c.say_list.ensures
+    (rows-listed c.args.answer.now (c.read.ensures.list ∙ c.requires.rooms.list) (text_read c.requires.rooms c.read.ensures.reads c.in-Ok.is) c.requires.answer)

@@ -7,18 +7,18 @@ use Rattle.desk.proofs.lists.say_list.Goals as goal
 pub say_refused-requires-clause-returned : goal.say_refused-requires-clause-returned
 say_refused-requires-clause-returned c = omega (arith, length_small c.requires c.generate.ensures.generates c.in-Err.is)
 
+pub shared_ref_as_front-write_list : goal.shared_ref_as_front-write_list
+shared_ref_as_front-write_list c = omega (arith, stands_inside c.requires c.generate.ensures.generates c.in-Ok.is)
+
 pub slice_bounds-write_list-end : goal.slice_bounds-write_list-end
-slice_bounds-write_list-end c = stands_inside c.requires c.generate.ensures.generates c.in-Ok.is
+slice_bounds-write_list-end c = stands_long c.requires c.generate.ensures.generates c.in-Ok.is
 
-pub slice_bounds-write_list-end-in-Ok : goal.slice_bounds-write_list-end-in-Ok
-slice_bounds-write_list-end-in-Ok c = stands_long c.requires c.generate.ensures.generates c.in-Ok.is
+pub returns-in-Err : goal.returns-in-Err
+returns-in-Err c = said_as c.say_refused.ensures (list-refused c.requires c.generate.ensures.generates c.in-Err.is)
 
-pub returns-in-Err-clause-says : goal.returns-in-Err-clause-says
-returns-in-Err-clause-says c = said_as c.say_refused.ensures (list-refused c.requires c.generate.ensures.generates c.in-Err.is)
-
-pub returns-in-Ok-write_list-clause-says : goal.returns-in-Ok-write_list-clause-says
-returns-in-Ok-write_list-clause-says c = list-said c.requires c.generate.ensures.generates c.in-Ok.is (rw c.generate.ensures.same.columns at c.write_list.ensures) c.in-Ok-write_list.is
+pub returns-in-Ok-write_list : goal.returns-in-Ok-write_list
+returns-in-Ok-write_list c = list-said c.requires c.generate.ensures.generates c.in-Ok.is c.write_list.ensures c.in-Ok-write_list.is
 
 pub unreachable-requires : goal.unreachable-requires
 unreachable-requires c =
-    never_refused c.requires c.generate.ensures.generates c.in-Ok.is (rw c.generate.ensures.same.columns at c.write_list.ensures) c.in_default.is
+    never_refused c.requires c.generate.ensures.generates c.in-Ok.is c.write_list.ensures c.in_default.is
