@@ -24,9 +24,10 @@ fn say_verdict(input: &[u8], function: Function, rooms: &mut Rooms, answer: &mut
         low: &rooms.low,
         high: &rooms.high,
     };
-    match candidate::read_candidate(table.columns, ending::after_end(input), &mut rooms.list) {
+    let list: &mut [u32] = &mut rooms.list;
+    match candidate::read_candidate(table.columns, ending::after_end(input), list) {
         Err(refused) => said::say_refused(answer, refused),
-        Ok(rows) => match check::check(table, function.lower, function.upper, &rooms.list[..rows]) {
+        Ok(rows) => match check::check(table, function.lower, function.upper, &list[..rows]) {
             Err(refused) => said::say_refused(answer, refused),
             Ok(verdict) => said::say_judged(answer, table.columns, verdict),
         },

@@ -22,12 +22,12 @@ fn say_list(function: Function, rooms: &mut Rooms, answer: &mut [u8]) -> usize
         low: &mut rooms.low,
         high: &mut rooms.high,
     };
-    match entry::generate(&mut table, function.lower, function.upper, &mut rooms.list) {
+    let list: &mut [u32] = &mut rooms.list;
+    match entry::generate(&mut table, function.lower, function.upper, list) {
         Err(refused) => said::say_refused(answer, refused),
         Ok(length) => {
             // Nothing is refused: what was delivered is a list of the rule, and the text of 1,536 cubes fits the room.
-            let Ok(written) = writing::write_list(function.columns, &rooms.list[..length], answer)
-            else {
+            let Ok(written) = writing::write_list(function.columns, &list[..length], answer) else {
                 unreachable!()
             };
             written

@@ -2,16 +2,12 @@
 -- refuses.
 use native.Mathlib.Omega.{arith}
 use Rattle.desk.proofs.Saying.{said_as}
-use Rattle.desk.proofs.Checked.{candidate_refused, value_small, stands_inside, stands_long, candidate_judged, never_refused}
+use Rattle.desk.proofs.Checked.{candidate_refused, value_small, stands_long, candidate_judged, never_refused}
 use Rattle.desk.proofs.checks.say_verdict.Goals as goal
 
 pub say_refused-requires-clause-returned : goal.say_refused-requires-clause-returned
 say_refused-requires-clause-returned c =
     omega (arith, value_small c.args.input.now c.requires.ready c.requires.input c.after_end.ensures c.read_candidate.ensures c.in-Err.is)
-
-pub shared_ref_as_front-check : goal.shared_ref_as_front-check
-shared_ref_as_front-check c =
-    omega (arith, stands_inside c.args.input.now c.requires.ready c.requires.input c.after_end.ensures c.read_candidate.ensures c.in-Ok.is)
 
 pub slice_bounds-check-end : goal.slice_bounds-check-end
 slice_bounds-check-end c =

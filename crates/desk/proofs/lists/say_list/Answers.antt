@@ -1,14 +1,11 @@
 -- `desk::lists::say_list` meets its contract: what `generate` refuses is said, and what it delivers is written, which nothing refuses.
 use native.Mathlib.Omega.{arith}
 use Rattle.desk.proofs.Saying.{said_as}
-use Rattle.desk.proofs.Listed.{list-refused, length_small, stands_inside, stands_long, list-said, never_refused}
+use Rattle.desk.proofs.Listed.{list-refused, length_small, stands_long, list-said, never_refused}
 use Rattle.desk.proofs.lists.say_list.Goals as goal
 
 pub say_refused-requires-clause-returned : goal.say_refused-requires-clause-returned
 say_refused-requires-clause-returned c = omega (arith, length_small c.requires c.generate.ensures.generates c.in-Err.is)
-
-pub shared_ref_as_front-write_list : goal.shared_ref_as_front-write_list
-shared_ref_as_front-write_list c = omega (arith, stands_inside c.requires c.generate.ensures.generates c.in-Ok.is)
 
 pub slice_bounds-write_list-end : goal.slice_bounds-write_list-end
 slice_bounds-write_list-end c = stands_long c.requires c.generate.ensures.generates c.in-Ok.is
