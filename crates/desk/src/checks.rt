@@ -2,7 +2,7 @@
 ghost use Rattle.std.specs.Prelude.{◌≤◌, length};
 ghost use Rattle.desk.specs.Answer.{check_answer, Answers};
 ghost use Rattle.desk.specs.Judged.{Says};
-ghost use Rattle.desk.specs.Contract.{IsZero, ReadyIn, candidate_said_of, Fits};
+ghost use Rattle.desk.specs.Contract.{ReadyIn, candidate_said_of};
 
 use crate::rooms::{ANSWER_ROOM, Rooms};
 use crate::said;
@@ -34,18 +34,6 @@ fn say_verdict(input: &[u8], function: Function, rooms: &mut Rooms, answer: &mut
     }
 }
 
-// The answer, in lent rooms.
-fn check_in(input: &[u8], rooms: &mut Rooms, answer: &mut [u8]) -> usize
-    requires rooms { IsZero rooms.old }
-    requires answer { Fits answer.old }
-    ensures { Says (check_answer input.now) answer.old answer.new result }
-{
-    match rooms.read(input) {
-        Err(refused) => said::say_refused(answer, refused),
-        Ok(function) => say_verdict(input, function, rooms, answer),
-    }
-}
-
 // The second program's answer, with zeros past it, and the number of its bytes. A room that not every answer fits is left as it
 // is, and 0 is returned.
 pub fn check_answer(input: &[u8], answer: &mut [u8]) -> usize
@@ -55,5 +43,9 @@ pub fn check_answer(input: &[u8], answer: &mut [u8]) -> usize
     if answer.len() < ANSWER_ROOM {
         return 0;
     }
-    check_in(input, &mut Rooms::new(), answer)
+    let mut rooms = Rooms::new();
+    match rooms.read(input) {
+        Err(refused) => said::say_refused(answer, refused),
+        Ok(function) => say_verdict(input, function, &mut rooms, answer),
+    }
 }

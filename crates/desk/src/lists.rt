@@ -1,7 +1,7 @@
 // The first program: the list of a function text, or a refusal.
 ghost use Rattle.desk.specs.Answer.{list_answer, Answers};
 ghost use Rattle.desk.specs.Judged.{Says};
-ghost use Rattle.desk.specs.Contract.{IsZero, ReadyIn, list_said_of, Fits};
+ghost use Rattle.desk.specs.Contract.{ReadyIn, list_said_of};
 
 use crate::rooms::{ANSWER_ROOM, Rooms};
 use crate::said;
@@ -35,18 +35,6 @@ fn say_list(function: Function, rooms: &mut Rooms, answer: &mut [u8]) -> usize
     }
 }
 
-// The answer, in lent rooms.
-fn list_in(input: &[u8], rooms: &mut Rooms, answer: &mut [u8]) -> usize
-    requires rooms { IsZero rooms.old }
-    requires answer { Fits answer.old }
-    ensures { Says (list_answer input.now) answer.old answer.new result }
-{
-    match rooms.read(input) {
-        Err(refused) => said::say_refused(answer, refused),
-        Ok(function) => say_list(function, rooms, answer),
-    }
-}
-
 // The first program's answer, with zeros past it, and the number of its bytes. A room that not every answer fits is left as it
 // is, and 0 is returned.
 pub fn list_answer(input: &[u8], answer: &mut [u8]) -> usize
@@ -56,5 +44,9 @@ pub fn list_answer(input: &[u8], answer: &mut [u8]) -> usize
     if answer.len() < ANSWER_ROOM {
         return 0;
     }
-    list_in(input, &mut Rooms::new(), answer)
+    let mut rooms = Rooms::new();
+    match rooms.read(input) {
+        Err(refused) => said::say_refused(answer, refused),
+        Ok(function) => say_list(function, &mut rooms, answer),
+    }
 }
