@@ -135,7 +135,7 @@ module _ (input : List ℕ) {n c : ℕ} {v l h : List ℕ} {a b : ℕ} {list ans
     unfolding list_read list_by padded
     room-is = reads.left ∙ ap (λ q. list_by q (outcome n candidate) list) (ap (λ k. first_broken (read_conditions n candidate k)) r.cubes ∙ kept)
 
-    pub stands_inside : k ≤ length list'
+    stands_inside : k ≤ length list'
     stands_inside = omega (arith, long, ap length room-is, length-append xs (replicate (length list - length xs) 0))
 
     pub stands_long : k ≡ length (take k list')

@@ -134,7 +134,7 @@ module _ {n c : ℕ} {v l h : List ℕ} {a b : ℕ} {list answer : List ℕ} (r 
       pub stands : take k list' ≡ xs
       stands = ap (take k) room-is ∙ take_at xs (replicate (length list - length xs) 0) k (sym long)
 
-      pub stands_inside : k ≤ length list'
+      stands_inside : k ≤ length list'
       stands_inside = omega (arith, long, ap length room-is, length-append xs (replicate (length list - length xs) 0))
 
       pub stands_long : k ≡ length (take k list')
