@@ -36,6 +36,7 @@ fn say_verdict(input: &[u8], function: Function, rooms: &mut Rooms, answer: &mut
 
 // The second program's answer, with zeros past it, and the number of its bytes. A room that not every answer fits is left as it
 // is, and 0 is returned.
+// Kept: both programs have this body, since one with a closure would state again what `say_verdict` asks and promises.
 pub fn check_answer(input: &[u8], answer: &mut [u8]) -> usize
     ensures { Answers (check_answer input.now) answer.old answer.new result }
 {

@@ -37,6 +37,7 @@ fn say_list(function: Function, rooms: &mut Rooms, answer: &mut [u8]) -> usize
 
 // The first program's answer, with zeros past it, and the number of its bytes. A room that not every answer fits is left as it
 // is, and 0 is returned.
+// Kept: both programs have this body, since one with a closure would state again what `say_list` asks and promises.
 pub fn list_answer(input: &[u8], answer: &mut [u8]) -> usize
     ensures { Answers (list_answer input.now) answer.old answer.new result }
 {
