@@ -69,7 +69,7 @@ pub fn generate(
     table.give_back(kept);
     let Some(length) = filled else {
         room.fill(0);
-        return Err(Refusal::NodesLack.returning(0));
+        return Err(Refusal::NodesLack.into());
     };
     if size < length {
         room.fill(0);

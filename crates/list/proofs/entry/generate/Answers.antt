@@ -15,12 +15,12 @@ give_back-requires c = back_asks c.args.table.now _ _ c.args.room.now c.reading.
 pub returns-in_default-clause-generates : goal.returns-in_default-clause-generates
 returns-in_default-clause-generates c =
     nodes-lack c.args.table.now _ _ c.args.room.now c.reading.ensures c.in_ok-input_refusal.ensures c.fill-filled.new.room (c.fill.ensures.after (λ y e. e)) c.give_back.ensures.given c.in_default.ensures.filled
-    (c.fill-in_default.ensures.after (λ y e. e)) _ c.returning.ensures.refusal c.returning.ensures.returned
+    (c.fill-in_default.ensures.after (λ y e. e)) _ c.into.ensures.0 c.into.ensures.1
 
 pub returns-then-size-length-clause-generates : goal.returns-then-size-length-clause-generates
 returns-then-size-length-clause-generates c =
     list-lacks c.args.table.now _ _ c.args.room.now c.reading.ensures c.in_ok-input_refusal.ensures c.fill-filled.new.room (c.fill.ensures.after (λ y e. e)) c.give_back.ensures.given c.in-Some.length c.in-Some.ensures.filled c.if-size-length.true
-    (c.fill-then-size-length.ensures.after (λ y e. e)) _ c.returning-then-size-length.ensures.refusal c.returning-then-size-length.ensures.returned
+    (c.fill-then-size-length.ensures.after (λ y e. e)) _ c.returning.ensures.refusal c.returning.ensures.returned
 
 pub returns-clause-generates : goal.returns-clause-generates
 returns-clause-generates c =
