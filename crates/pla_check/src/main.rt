@@ -4,11 +4,12 @@
 #![tactic(auto)]
 
 use desk::checks;
+use desk::rooms::ANSWER_ROOM;
 
 fn main(rt: HostRuntime) {
     let mut input = [0u8; 32769];
     let length = intake::read_full(&mut rt.stdin(), &mut input);
-    let mut answer = [0u8; 29206];
+    let mut answer = [0u8; ANSWER_ROOM];
     let said = checks::check_answer(&input[..length], &mut answer);
     let _ = rt.write_all(&answer[..said]);
 }
