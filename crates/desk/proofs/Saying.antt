@@ -11,10 +11,8 @@ use Rattle.line.specs.Bytes.{bytes}
 use Rattle.line.specs.Decimal.{digit}
 use Rattle.checker.specs.Judging.{Judged}
 use Rattle.checker.specs.declared.fault.Fault.{Fault}
-use Rattle.text.specs.Room.{Put}
-use Rattle.text.specs.Writer.{ClearedIn}
+use Rattle.text.specs.Room.{cleared, Put}
 use Rattle.text.specs.Writing.{joined}
-use Rattle.text.specs.declared.writer.Writer.{Writer}
 use Rattle.text.proofs.Numerals as Numerals
 use Rattle.text.proofs.Room.{Left, all_left, left-put, none_left, put_then, put-kept}
 use Rattle.text.proofs.Written.{put-padded}
@@ -66,14 +64,14 @@ module _ {room whole room' : List ℕ} {i r : ℕ} (left p : ℕ) (l : Left room
   no_column e = none_left (rw e at l)
 
 -- The end of a line.
-pub line_ended : {old w room : List ℕ} {i : ℕ} {ended cleared : Writer} → Put old 0 w room i → Put room i (bytes "\n") ended.room.now ended.at
-    → ClearedIn ended cleared → i < length room → Says (w ++ bytes "\n") old cleared.room.now cleared.at
+pub line_ended : {old w room room' room'' : List ℕ} {i r : ℕ} → Put old 0 w room i → Put room i (bytes "\n") room' r
+    → room'' ≡ cleared r room' → i < length room → Says (w ++ bytes "\n") old room'' r
 unfolding bytes
 line_ended {w = w} p q e h =
     let all = put_then p q in
     record {
-      count = omega (arith, all.next, e.place);
-      left = e.room ∙ put-padded all (w ++ bytes "\n") refl (omega (arith, length-append w (bytes "\n"), put-kept p, p.next));
+      count = omega (arith, all.next);
+      left = e ∙ put-padded all (w ++ bytes "\n") refl (omega (arith, length-append w (bytes "\n"), put-kept p, p.next));
     }
 
 pub said_as : {w w' room room' : List ℕ} {r : ℕ} → Says w room room' r → w ≡ w' → Says w' room room' r

@@ -5,4 +5,5 @@ use Rattle.desk.proofs.said.end_line.Goals as goal
 
 pub returns-clause-says : goal.returns-clause-says
 unfolding bytes
-returns-clause-says c = λ old w p. line_ended p c.byte.ensures.put c.clear_rest.ensures.cleared c.requires
+returns-clause-says c = λ old w p.
+    let e = c.clear_rest.ensures.cleared in rw e.place (line_ended p c.byte.ensures.put e.room c.requires)
