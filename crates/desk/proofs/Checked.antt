@@ -1,5 +1,5 @@
 -- The second program: the ways out of `say_verdict`, and what it says of the rows that were read.
-use mathlib.Core.Path.{◌≡◌, refl, sym, ap, ap₂, ◌∙◌, subst}
+use mathlib.Core.Path.{◌≡◌, refl, sym, ap, ap₂, ◌∙◌}
 use mathlib.Core.Bool.{Bool, true, false, cond, ◌&&◌}
 use mathlib.Core.List.{List, [], ◌∷◌, ◌++◌}
 use Prim.Native.Nat.{ℕ, zero, suc, ◌-◌, ◌≤◌}
@@ -35,10 +35,19 @@ use Rattle.desk.proofs.Outcomes.{candidate_formed, few-cubes, early_fault}
 use Rattle.desk.proofs.Reading.{kept_first, ReadRows}
 use Rattle.desk.proofs.Prepared.{input_kept}
 
--- What follows a text is no longer than it.
+-- What follows a text is no longer than it, and the candidate.
 rest-short : (input : List ℕ) → length (after_end input) ≤ length input
 unfolding after_end
 rest-short input = omega (arith, length-drop (bytes_to_end (lines input)) input)
+
+pub text_short : (input : List ℕ) {text : List ℕ} → length input ≤ 32768 → text ≡ after_end input → length text ≤ 32768
+text_short input h e = omega (arith, ap length e, rest-short input)
+
+pub same_rest : {n c : ℕ} {v l h : List ℕ} {a b : ℕ} {list answer text : List ℕ} (input : List ℕ) → Ready n c v l h a b list answer → text ≡ after_end input
+    → candidate_for n (fn_of (table_of v l h) 0 n a) (fn_of (table_of v l h) 0 n b) text (first_broken (read_conditions n text 1536))
+    ≡ candidate_for n (fn_of (table_of v l h) 0 n a) (fn_of (table_of v l h) 0 n b) (after_end input) (first_broken (read_conditions n (after_end input) 1536))
+same_rest {n} {v = v} {l} {h} {a} {b} input r e =
+    ap (λ t. candidate_for n (fn_of (table_of v l h) 0 n a) (fn_of (table_of v l h) 0 n b) t (first_broken (read_conditions n t 1536))) e
 
 -- The line of a verdict, by the checker's answer.
 verdict_line : (n : ℕ) (w : Verdict) → judged_text n (judged_as w) ≡ verdict_text n w
@@ -64,13 +73,9 @@ module _ {n c : ℕ} {v l h : List ℕ} {a b : ℕ} {list answer : List ℕ} (r 
   unfolding answer_for lower upper
   verdict-told = ap (answer_for n c v l h a b xs) none-refused
 
--- What is read of the candidate, which follows the function text.
-module _ (input : List ℕ) {n c : ℕ} {v l h : List ℕ} {a b : ℕ} {list answer text list' : List ℕ} {g : Result ℕ Refused}
-    (r : Ready n c v l h a b list answer) (short : length input ≤ 32768) (follows : text ≡ after_end input)
-    (p : Read n text list list' g) where
-  abbrev candidate : List ℕ
-  candidate = after_end input
-
+-- What is read of a candidate.
+module _ {n c : ℕ} {v l h : List ℕ} {a b : ℕ} {list answer text list' : List ℕ} {g : Result ℕ Refused}
+    (r : Ready n c v l h a b list answer) (short : length text ≤ 32768) (p : Read n text list list' g) where
   abbrev L : Fn n
   L = fn_of (table_of v l h) 0 n a
 
@@ -78,43 +83,40 @@ module _ (input : List ℕ) {n c : ℕ} {v l h : List ℕ} {a b : ℕ} {list ans
   U = fn_of (table_of v l h) 0 n b
 
   abbrev broken : ℕ
-  broken = first_broken (read_conditions n candidate 1536)
+  broken = first_broken (read_conditions n text 1536)
 
   abbrev xs : List ℕ
-  xs = cubes_of (outcome n candidate)
+  xs = cubes_of (outcome n text)
 
-  reads : Read n candidate list list' g
-  reads = subst (λ t. Read n t list list' g) follows p
-
-  answer-by : g ≡ read_by broken (outcome n candidate)
+  answer-by : g ≡ read_by broken (outcome n text)
   unfolding read_answer
-  answer-by = reads.answer ∙ ap (λ k. read_answer n candidate k) r.cubes
+  answer-by = p.answer ∙ ap (λ k. read_answer n text k) r.cubes
 
-  numbers-by : read_numbers g ≡ numbers_for broken (outcome n candidate)
-  numbers-by = reads.numbers ∙ ap (λ k. numbers_for (first_broken (read_conditions n candidate k)) (outcome n candidate)) r.cubes
+  numbers-by : read_numbers g ≡ numbers_for broken (outcome n text)
+  numbers-by = p.numbers ∙ ap (λ k. numbers_for (first_broken (read_conditions n text k)) (outcome n text)) r.cubes
 
   -- What a refusal returns is at most one past the last line, or the rows.
-  returns_small : (q : ℕ) → read_returns (outcome n candidate) q ≤ 32769
+  returns_small : (q : ℕ) → read_returns (outcome n text) q ≤ 32769
   unfolding read_returns
   returns_small q = go (eqb q text_fault) (eqb q list_lacks)
     where
-      go : (s t : Bool) → cond s (fault_line (outcome n candidate)) (cond t (length xs) 0) ≤ 32769
-      go true t = omega (arith, early_fault n candidate, rest-short input)
-      go false true = omega (arith, few-cubes n candidate, rest-short input)
+      go : (s t : Bool) → cond s (fault_line (outcome n text)) (cond t (length xs) 0) ≤ 32769
+      go true t = omega (arith, early_fault n text, short)
+      go false true = omega (arith, few-cubes n text, short)
       go false false = omega arith
 
   -- At a refusal.
   module _ {f : Refused} (e : g ≡ Err f) where
-    told : (number_of f.refusal ≡ broken) × (f.returned ≡ read_returns (outcome n candidate) broken)
+    told : (number_of f.refusal ≡ broken) × (f.returned ≡ read_returns (outcome n text) broken)
     unfolding read_numbers numbers_for
     told = let i = ap read_numbers (sym e) ∙ numbers-by in (ap (λ k. k.refusal) i, ap (λ k. k.returned) i)
 
-    said : (k : ℕ) → broken ≡ k → refused_text broken (read_returns (outcome n candidate) broken) ≡ candidate_for n L U candidate k
+    said : (k : ℕ) → broken ≡ k → refused_text broken (read_returns (outcome n text) broken) ≡ candidate_for n L U text k
     unfolding read_by candidate_for
-    said zero z = let i = sym e ∙ answer-by ∙ ap (λ k. read_by k (outcome n candidate)) z in absurd (cc)
-    said (suc k) z = ap (λ q. refused_text q (read_returns (outcome n candidate) q)) z
+    said zero z = let i = sym e ∙ answer-by ∙ ap (λ k. read_by k (outcome n text)) z in absurd (cc)
+    said (suc k) z = ap (λ q. refused_text q (read_returns (outcome n text) q)) z
 
-    pub candidate_refused : refusal_text f ≡ candidate_for n L U candidate broken
+    pub candidate_refused : refusal_text f ≡ candidate_for n L U text broken
     unfolding refusal_text
     candidate_refused = ap₂ refused_text told.0 told.1 ∙ said broken refl
 
@@ -129,11 +131,11 @@ module _ (input : List ℕ) {n c : ℕ} {v l h : List ℕ} {a b : ℕ} {list ans
 
     long : k ≡ length xs
     unfolding read_by
-    long = let i = sym e ∙ answer-by ∙ ap (λ k. read_by k (outcome n candidate)) kept in cc
+    long = let i = sym e ∙ answer-by ∙ ap (λ k. read_by k (outcome n text)) kept in cc
 
     room-is : list' ≡ xs ++ replicate (length list - length xs) 0
     unfolding list_read list_by padded
-    room-is = reads.left ∙ ap (λ q. list_by q (outcome n candidate) list) (ap (λ k. first_broken (read_conditions n candidate k)) r.cubes ∙ kept)
+    room-is = p.left ∙ ap (λ q. list_by q (outcome n text) list) (ap (λ k. first_broken (read_conditions n text k)) r.cubes ∙ kept)
 
     stands_inside : k ≤ length list'
     stands_inside = omega (arith, long, ap length room-is, length-append xs (replicate (length list - length xs) 0))
@@ -148,9 +150,9 @@ module _ (input : List ℕ) {n c : ℕ} {v l h : List ℕ} {a b : ℕ} {list ans
     unfolding read_conditions first_broken
     few =
         let e₁ = kept_first (leb 1 n && leb n 16) _ 0 kept in
-        let e₂ = kept_first (leb (length candidate) 32768) _ 9 e₁.1 in
+        let e₂ = kept_first (leb (length text) 32768) _ 9 e₁.1 in
         let e₃ = kept_first (leb 1536 16384) _ 5 e₂.1 in
-        let e₄ = kept_first (is_good (outcome n candidate)) _ 10 e₃.1 in
+        let e₄ = kept_first (is_good (outcome n text)) _ 10 e₃.1 in
         omega (arith, leb-true (length xs) 1536 (kept_first (leb (length xs) 1536) _ 7 e₄.1).0)
 
     -- The checker's answer is the verdict on them, and never a refusal.
@@ -158,14 +160,14 @@ module _ (input : List ℕ) {n c : ℕ} {v l h : List ℕ} {a b : ℕ} {list ans
       told-is : told ≡ Ok (judged_as (verdict_numbers n L U xs))
       told-is =
           q ∙ ap (λ ys. answer_for n c v l h a b ys (refusal n c v l h a b ys)) stands ∙
-          verdict-told r xs few (candidate_formed n r.some r.roots.sound.columns candidate)
+          verdict-told r xs few (candidate_formed n r.some r.roots.sound.columns text)
 
-      pub candidate_judged : {w : Judged} → told ≡ Ok w → judged_text n w ≡ candidate_for n L U candidate broken
+      pub candidate_judged : {w : Judged} → told ≡ Ok w → judged_text n w ≡ candidate_for n L U text broken
       unfolding candidate_for
       candidate_judged {w} d =
           let i = sym d ∙ told-is in
           let j : w ≡ judged_as (verdict_numbers n L U xs) = cc in
-          ap (judged_text n) j ∙ verdict_line n (verdict_numbers n L U xs) ∙ ap (candidate_for n L U candidate) (sym kept)
+          ap (judged_text n) j ∙ verdict_line n (verdict_numbers n L U xs) ∙ ap (candidate_for n L U text) (sym kept)
 
       pub never_refused : {f : Refused} → told ≡ Err f → ⊥
       never_refused d = let i = sym d ∙ told-is in cc

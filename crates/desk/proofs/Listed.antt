@@ -170,22 +170,19 @@ module _ {n c : ℕ} {v l h : List ℕ} {a b : ℕ} {list answer : List ℕ} (r 
         never_refused f = let i = sym f ∙ written_is in cc
 
 -- What is said of the rows that were read.
-pub rows-listed : {input v l h list : List ℕ} {n c a b : ℕ} (answer : List ℕ) → list ≡ replicate 1536 0 → ReadRows input v l h n c a b → Fits answer
-    → list_said n (the_list n c v l h a b list) (refusal n c v l h a b list) ≡ list_answer input
+pub rows-listed : {input v l h : List ℕ} {n c a b : ℕ} (list answer : List ℕ) → ReadRows input v l h n c a b → length list ≡ 1536
+    → Fits answer → list_said n (the_list n c v l h a b list) (refusal n c v l h a b list) ≡ list_answer input
 unfolding list_answer answer_by the_list lower upper rows_list room_conditions list_refusal
-rows-listed {input} {v} {l} {h} {list} {n} {c} {a} {b} answer z r f =
+rows-listed {input} {v} {l} {h} {n} {c} {a} {b} list answer r e f =
     ap₂ (list_said n) the-list the_refusal ∙
     ap₂ (λ q w. answer_by input q w (λ n t rows. list_said n (rows_list n t rows) (list_refusal n t rows))) (sym r.kept) (sym r.told)
   where
-    ready : Ready n c v l h a b list answer
-    ready = ready_of z r f
-
     the-list : the_list n c v l h a b list ≡ rows_list n r.kind r.rows
     the-list = ap₂ (list_numbers n) r.on.means r.on_or_dc.means
 
     the_refusal : refusal n c v l h a b list ≡ list_refusal n r.kind r.rows
     the_refusal =
-        by_rooms ready ∙
+        by_rooms {answer = answer} (ready_of r e f) ∙
         (λ i. first_broken (
         record { number = nodes_lack; kept = leb (need (r.adds i) n (r.on.means i) (r.on_or_dc.means i)) (r.level i) } ∷
-        record { number = list_lacks; kept = leb (length (list_numbers n (r.on.means i) (r.on_or_dc.means i))) (ready.cubes i) } ∷ []))
+        record { number = list_lacks; kept = leb (length (list_numbers n (r.on.means i) (r.on_or_dc.means i))) (e i) } ∷ []))

@@ -1,12 +1,12 @@
 -- A function that was read is fit for the generator and the checker: what they ask of the input is kept.
-use mathlib.Core.Path.{◌≡◌, ap, ap₂, ◌∙◌}
+use mathlib.Core.Path.{◌≡◌, ap₂, ◌∙◌}
 use mathlib.Core.Bool.{true, not, ◌&&◌}
 use mathlib.Core.List.{List}
 use mathlib.Core.Logic.{◌⊎◌, inl, inr}
 use Prim.Native.Nat.{ℕ, ◌+◌, ◌-◌, ◌≤◌, ◌<◌}
 use native.Mathlib.Omega.{arith}
 use lib.Dec.{ltb}
-use lib.ListN.{length, replicate, length-replicate}
+use lib.ListN.{length}
 use borrow.Author.Tests.{le-leb, lt-leb, lt-ltb, ltb-true}
 use Rattle.rule.specs.Func.{within}
 use Rattle.rule.specs.Refusal.{first_broken}
@@ -31,15 +31,15 @@ in-range T c x e = go (or_true (ltb x 2) (ltb (x - 2) c && not (ltb (T.level (x 
         let s : x - 2 < c = ltb-true (x - 2) c (and_left (ltb (x - 2) c) (not (ltb (T.level (x - 2)) 0)) u) in
         lt-ltb x (c + 2) (omega arith)
 
-pub ready_of : {input v l h list answer : List ℕ} {n c a b : ℕ} → list ≡ replicate 1536 0 → ReadRows input v l h n c a b → Fits answer
+pub ready_of : {input v l h list answer : List ℕ} {n c a b : ℕ} → ReadRows input v l h n c a b → length list ≡ 1536 → Fits answer
     → Ready n c v l h a b list answer
-ready_of {n = n} z r f =
+ready_of {n = n} r e f =
     record {
       some = r.some;
       roots = record { sound = r.sound; column = omega arith; first = r.on.number; second = r.on_or_dc.number };
       inside = ap₂ (within n) r.on.means r.on_or_dc.means ∙ r.inside;
       level = r.level;
-      cubes = ap length z ∙ length-replicate {A = ℕ} 1536 0;
+      cubes = e;
       bytes = f;
     }
 

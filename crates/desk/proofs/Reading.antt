@@ -1,7 +1,7 @@
 -- What reading leaves of a function text in the programs' table: its refusal, or its rows with L within U.
 use mathlib.Core.Path.{◌≡◌, refl, sym, ap, ap₂, ◌∙◌, subst, subst⁻¹}
-use mathlib.Core.Bool.{Bool, true, false, cond, not}
-use mathlib.Core.List.{List, []}
+use mathlib.Core.Bool.{Bool, true, false, cond, not, ◌&&◌}
+use mathlib.Core.List.{List, [], ◌∷◌}
 use mathlib.Core.Logic.{◌⊎◌, inl, inr}
 use Prim.Native.Nat.{ℕ, zero, suc, ◌+◌, ◌≤◌}
 use native.Mathlib.Omega.{arith}
@@ -11,7 +11,7 @@ use borrow.Author.Tests.{leb-true}
 use Rattle.std.specs.Prelude.{Result, Ok, Err}
 use Rattle.rule.specs.Func.{within}
 use Rattle.rule.specs.Nodes.{add_all}
-use Rattle.rule.specs.Refusal.{first_broken, number_of, text_over, text_fault}
+use Rattle.rule.specs.Refusal.{first_broken, number_of, text_over, table_over, text_fault, nodes_lack, on_and_off}
 use Rattle.rule.specs.declared.refusal.Refused.{Refused}
 use Rattle.rule.specs.Rows.{Kind, Row, lower_of, upper_of, reading_names}
 use Rattle.rule.proofs.Bools.{clash, not_is_true, which}
@@ -28,9 +28,24 @@ use Rattle.text.proofs.Reading.{judged-good}
 use Rattle.desk.specs.Said.{refused_text}
 use Rattle.desk.specs.Answer.{column, input_refusal, answer_by}
 use Rattle.desk.specs.Judged.{refusal_text}
-use Rattle.desk.specs.Contract.{IsZero}
-use Rattle.desk.specs.declared.rooms.Rooms.{Rooms}
 use Rattle.desk.proofs.Outcomes.{early_fault}
+
+-- The conditions of reading speak of the slices' lengths alone.
+abbrev refusal_by : List ℕ → ℕ → ℕ → ℕ → ℕ
+refusal_by text a b d =
+    first_broken
+    (record { number = text_over; kept = leb (length text) 32768 } ∷
+    record { number = table_over; kept = eqb b a && eqb d a && leb a 4096 } ∷
+    record { number = text_fault; kept = is_good (outcome 0 text) } ∷
+    record { number = nodes_lack; kept = leb (need_of (outcome 0 text)) a } ∷
+    record { number = on_and_off; kept = not (contradictory (outcome 0 text)) } ∷ [])
+
+same-refusal : (text v l h : List ℕ) → length v ≡ 4096 → length l ≡ 4096 → length h ≡ 4096
+    → function_refusal text v l h ≡ input_refusal text
+unfolding function_refusal function_conditions input_refusal column
+same-refusal text v l h ev el eh =
+    let e : 4096 ≡ length column = sym (length-replicate {A = ℕ} 4096 0) in
+    λ i. refusal_by text ((ev ∙ e) i) ((el ∙ e) i) ((eh ∙ e) i)
 
 -- Where no condition is broken, the first is kept, and none of the others is broken.
 pub kept_first : (b : Bool) (x k : ℕ) → cond b x (suc k) ≡ 0 → (b ≡ true) × (x ≡ 0)
@@ -100,11 +115,10 @@ pub record ReadRows (input : List ℕ) (v : List ℕ) (l : List ℕ) (h : List �
   pub adds : functions n (table_of v l h) c ≡ add_all [] (reading_names n kind rows)
   pub inside : within n (lower_of n kind rows) (upper_of n kind rows) ≡ true
 
-module _ {input v' l' h' : List ℕ} {rooms : Rooms} {a : Result Function Refused} (z : IsZero rooms)
-    (p : ReadsFunction input rooms.level rooms.low rooms.high v' l' h' a) where
-  same : function_refusal input rooms.level rooms.low rooms.high ≡ input_refusal input
-  unfolding input_refusal column
-  same = λ i. function_refusal input (z.level i) (z.low i) (z.high i)
+module _ {input v l h v' l' h' : List ℕ} {a : Result Function Refused} (p : ReadsFunction input v l h v' l' h' a)
+    (ev : length v ≡ 4096) (el : length l ≡ 4096) (eh : length h ≡ 4096) where
+  same : function_refusal input v l h ≡ input_refusal input
+  same = same-refusal input v l h ev el eh
 
   -- At a refusal.
   module _ {r : Refused} (e : a ≡ Err r) where
@@ -161,7 +175,7 @@ module _ {input v' l' h' : List ℕ} {rooms : Rooms} {a : Result Function Refuse
               told = o;
               short = (all_kept input none).short;
               some = (good-columns input n t rows o).0;
-              level = k.length-kept ∙ ap length z.level ∙ length-replicate {A = ℕ} 4096 0;
+              level = k.length-kept ∙ ev;
               sound = k.sound;
               on = k.on;
               on_or_dc = k.on_or_dc;

@@ -2,7 +2,7 @@
 ghost use Rattle.std.specs.Prelude.{◌≤◌, length};
 ghost use Rattle.desk.specs.Answer.{check_answer, Answers};
 ghost use Rattle.desk.specs.Judged.{Says};
-ghost use Rattle.desk.specs.Contract.{ReadyIn, candidate_said_of};
+ghost use Rattle.desk.specs.Contract.{Fits, ReadyIn, candidate_said_of};
 
 use crate::rooms::{ANSWER_ROOM, Rooms};
 use crate::said;
@@ -34,9 +34,20 @@ fn say_verdict(input: &[u8], function: Function, rooms: &mut Rooms, answer: &mut
     }
 }
 
+// The answer, in lent rooms.
+// Kept: both programs have this body, since one with a closure would state again what `say_verdict` asks and promises.
+fn check_in(input: &[u8], rooms: &mut Rooms, answer: &mut [u8]) -> usize
+    requires { Fits answer.old }
+    ensures { Says (check_answer input.now) answer.old answer.new result }
+{
+    match rooms.read(input) {
+        Err(refused) => said::say_refused(answer, refused),
+        Ok(function) => say_verdict(input, function, rooms, answer),
+    }
+}
+
 // The second program's answer, with zeros past it, and the number of its bytes. A room that not every answer fits is left as it
 // is, and 0 is returned.
-// Kept: both programs have this body, since one with a closure would state again what `say_verdict` asks and promises.
 pub fn check_answer(input: &[u8], answer: &mut [u8]) -> usize
     ensures { Answers (check_answer input.now) answer.old answer.new result }
 {
@@ -44,9 +55,5 @@ pub fn check_answer(input: &[u8], answer: &mut [u8]) -> usize
     if answer.len() < ANSWER_ROOM {
         return 0;
     }
-    let mut rooms = Rooms::new();
-    match rooms.read(input) {
-        Err(refused) => said::say_refused(answer, refused),
-        Ok(function) => say_verdict(input, function, &mut rooms, answer),
-    }
+    check_in(input, &mut Rooms::new(), answer)
 }

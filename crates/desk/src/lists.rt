@@ -1,7 +1,7 @@
 // The first program: the list of a function text, or a refusal.
 ghost use Rattle.desk.specs.Answer.{list_answer, Answers};
 ghost use Rattle.desk.specs.Judged.{Says};
-ghost use Rattle.desk.specs.Contract.{ReadyIn, list_said_of};
+ghost use Rattle.desk.specs.Contract.{Fits, ReadyIn, list_said_of};
 
 use crate::rooms::{ANSWER_ROOM, Rooms};
 use crate::said;
@@ -35,9 +35,20 @@ fn say_list(function: Function, rooms: &mut Rooms, answer: &mut [u8]) -> usize
     }
 }
 
+// The answer, in lent rooms.
+// Kept: both programs have this body, since one with a closure would state again what `say_list` asks and promises.
+fn list_in(input: &[u8], rooms: &mut Rooms, answer: &mut [u8]) -> usize
+    requires { Fits answer.old }
+    ensures { Says (list_answer input.now) answer.old answer.new result }
+{
+    match rooms.read(input) {
+        Err(refused) => said::say_refused(answer, refused),
+        Ok(function) => say_list(function, rooms, answer),
+    }
+}
+
 // The first program's answer, with zeros past it, and the number of its bytes. A room that not every answer fits is left as it
 // is, and 0 is returned.
-// Kept: both programs have this body, since one with a closure would state again what `say_list` asks and promises.
 pub fn list_answer(input: &[u8], answer: &mut [u8]) -> usize
     ensures { Answers (list_answer input.now) answer.old answer.new result }
 {
@@ -45,9 +56,5 @@ pub fn list_answer(input: &[u8], answer: &mut [u8]) -> usize
     if answer.len() < ANSWER_ROOM {
         return 0;
     }
-    let mut rooms = Rooms::new();
-    match rooms.read(input) {
-        Err(refused) => said::say_refused(answer, refused),
-        Ok(function) => say_list(function, &mut rooms, answer),
-    }
+    list_in(input, &mut Rooms::new(), answer)
 }

@@ -1,28 +1,10 @@
--- `desk::lists::list_answer` meets its contract: a short room is left as it is; in another, what reading refuses is said first, and
--- what it reads is listed.
-use mathlib.Core.Path.{◌∙◌}
-use native.Mathlib.Omega.{arith}
+-- `desk::lists::list_answer` meets its contract: a short room is left as it is, another holds what `list_in` answers.
 use Rattle.desk.specs.Answer.{list_answer}
-use Rattle.desk.proofs.Saying.{said_as}
-use Rattle.desk.proofs.Reading.{text_refused, value_small, text_read}
-use Rattle.desk.proofs.Prepared.{short-room, whole_room, ready_of}
-use Rattle.desk.proofs.Listed.{rows-listed}
+use Rattle.desk.proofs.Prepared.{short-room, whole_room}
 use Rattle.desk.proofs.lists.list_answer.Goals as goal
 
 pub returns-then-answer-lt-ANSWER_ROOM : goal.returns-then-answer-lt-ANSWER_ROOM
 returns-then-answer-lt-ANSWER_ROOM c = short-room (list_answer c.args.input.now) c.args.answer.now c.if-answer-lt-ANSWER_ROOM.true
 
-pub say_refused-requires-clause-returned : goal.say_refused-requires-clause-returned
-say_refused-requires-clause-returned c = omega (arith, value_small c.new-rooms.ensures c.read.ensures.reads c.in-Err.is)
-
-pub say_list-requires : goal.say_list-requires
-say_list-requires c = ready_of (c.read.ensures.list ∙ c.new-rooms.ensures.list) (text_read c.new-rooms.ensures c.read.ensures.reads c.in-Ok.is) c.if-answer-lt-ANSWER_ROOM.false
-
-pub returns-in-Err : goal.returns-in-Err
-unfolding list_answer
-returns-in-Err c = whole_room c.if-answer-lt-ANSWER_ROOM.false (said_as c.say_refused.ensures (text_refused c.new-rooms.ensures c.read.ensures.reads c.in-Err.is _))
-
-pub returns-in-Ok : goal.returns-in-Ok
-returns-in-Ok c =
-    whole_room c.if-answer-lt-ANSWER_ROOM.false (said_as c.say_list.ensures
-    (rows-listed c.args.answer.now (c.read.ensures.list ∙ c.new-rooms.ensures.list) (text_read c.new-rooms.ensures c.read.ensures.reads c.in-Ok.is) c.if-answer-lt-ANSWER_ROOM.false))
+pub returns : goal.returns
+returns c = whole_room c.if-answer-lt-ANSWER_ROOM.false c.list_in.ensures
