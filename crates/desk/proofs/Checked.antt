@@ -117,7 +117,6 @@ module _ {n c : ℕ} {v l h : List ℕ} {a b : ℕ} {list answer text list' : Li
     said (suc k) z = ap (λ q. refused_text q (read_returns (outcome n text) q)) z
 
     pub candidate_refused : refusal_text f ≡ candidate_for n L U text broken
-    unfolding refusal_text
     candidate_refused = ap₂ refused_text told.0 told.1 ∙ said broken refl
 
     pub value_small : f.returned ≤ 32769

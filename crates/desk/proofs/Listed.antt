@@ -101,7 +101,6 @@ module _ {n c : ℕ} {v l h : List ℕ} {a b : ℕ} {list answer : List ℕ} (r 
       said (suc k) z = ap (λ q. refused_text q (cond (eqb q list_lacks) (length xs) 0)) z
 
       pub list-refused : refusal_text f ≡ list_said n xs refused
-      unfolding refusal_text
       list-refused = ap₂ refused_text told.0 told.1 ∙ said refused refl
 
       pub length_small : f.returned ≤ 43046721

@@ -138,7 +138,7 @@ module _ {input v l h v' l' h' : List ℕ} {a : Result Function Refused} (p : Re
 
     pub text_refused : (next : (n : ℕ) → Kind → List Row → List ℕ)
         → refusal_text r ≡ answer_by input (input_refusal input) (outcome 0 input) next
-    unfolding answer_by refusal_text
+    unfolding answer_by
     text_refused next = go (input_refusal input) refl
       where
         go : (q : ℕ) → input_refusal input ≡ q → refusal_text r ≡ answer_by input q (outcome 0 input) next

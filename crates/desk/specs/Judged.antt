@@ -17,7 +17,7 @@ judged_text n (Err (Literal c k)) = verdict_text n (literal c k)
 judged_text n (Err (Cube c)) = verdict_text n (cube c)
 
 -- The line of a refusal.
-unfoldable pub refusal_text : Refused → List ℕ
+abbrev pub refusal_text : Refused → List ℕ
 refusal_text r = refused_text (number_of r.refusal) r.returned
 
 -- A room holds some bytes with zeros past them, and their number is returned.

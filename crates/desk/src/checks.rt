@@ -26,9 +26,9 @@ fn say_verdict(input: &[u8], function: Function, rooms: &mut Rooms, answer: &mut
     };
     let list: &mut [u32] = &mut rooms.list;
     match candidate::read_candidate(table.columns, ending::after_end(input), list) {
-        Err(refused) => said::say_refused(answer, refused),
+        Err(refused) => said::say_refused(answer, refused.refusal, refused.returned as u32),
         Ok(rows) => match check::check(table, function.lower, function.upper, &list[..rows]) {
-            Err(refused) => said::say_refused(answer, refused),
+            Err(refused) => said::say_refused(answer, refused.refusal, refused.returned as u32),
             Ok(verdict) => said::say_judged(answer, table.columns, verdict),
         },
     }
@@ -41,7 +41,7 @@ fn check_in(input: &[u8], rooms: &mut Rooms, answer: &mut [u8]) -> usize
     ensures { Says (check_answer input.now) answer.old answer.new result }
 {
     match rooms.read(input) {
-        Err(refused) => said::say_refused(answer, refused),
+        Err(refused) => said::say_refused(answer, refused.refusal, refused.returned as u32),
         Ok(function) => say_verdict(input, function, rooms, answer),
     }
 }

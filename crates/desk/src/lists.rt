@@ -24,7 +24,7 @@ fn say_list(function: Function, rooms: &mut Rooms, answer: &mut [u8]) -> usize
     };
     let list: &mut [u32] = &mut rooms.list;
     match entry::generate(&mut table, function.lower, function.upper, list) {
-        Err(refused) => said::say_refused(answer, refused),
+        Err(refused) => said::say_refused(answer, refused.refusal, refused.returned as u32),
         Ok(length) => {
             // Nothing is refused: what was delivered is a list of the rule, and the text of 1,536 cubes fits the room.
             let Ok(written) = writing::write_list(function.columns, &list[..length], answer) else {
@@ -42,7 +42,7 @@ fn list_in(input: &[u8], rooms: &mut Rooms, answer: &mut [u8]) -> usize
     ensures { Says (list_answer input.now) answer.old answer.new result }
 {
     match rooms.read(input) {
-        Err(refused) => said::say_refused(answer, refused),
+        Err(refused) => said::say_refused(answer, refused.refusal, refused.returned as u32),
         Ok(function) => say_list(function, rooms, answer),
     }
 }

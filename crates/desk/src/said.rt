@@ -1,16 +1,17 @@
 // The one-line answers: a refusal and a verdict. Every line fits 32 bytes.
-ghost use Rattle.std.specs.Prelude.{List, [], ◌∷◌, ◌++◌, ℕ, ◌+◌, ◌^◌, ◌≤◌, ◌<◌, length};
+ghost use Rattle.std.specs.Prelude.{List, [], ◌∷◌, ◌++◌, ℕ, ◌+◌, ◌≤◌, ◌<◌, length};
+ghost use Rattle.rule.specs.Refusal.{number_of};
 ghost use Rattle.rule.specs.Verdict.{off, missing};
 ghost use Rattle.rule.specs.Verdict.{cube as Verdict·cube};
 ghost use Rattle.line.specs.Bytes.{bytes};
 ghost use Rattle.text.specs.Room.{Put};
 ghost use Rattle.text.specs.Writer.{SameRoom, PutIn};
 ghost use Rattle.text.specs.Writing.{joined};
-ghost use Rattle.desk.specs.Said.{numeral, point_text, verdict_text};
-ghost use Rattle.desk.specs.Judged.{judged_text, refusal_text, Says};
+ghost use Rattle.desk.specs.Said.{numeral, point_text, refused_text, verdict_text};
+ghost use Rattle.desk.specs.Judged.{judged_text, Says};
 
 use checker::fault::{Fault, Verdict};
-use rule::refusal::Refused;
+use rule::refusal::Refusal;
 use text::writer::Writer;
 
 // The digits of a point, column by column.
@@ -96,13 +97,12 @@ fn say_accept(room: &mut [u8]) -> usize
 }
 
 // A refusal's number and what it returns.
-pub fn say_refused(room: &mut [u8], refused: Refused) -> usize
-    requires room { 32 ≤ length room.old }
-    requires returned { refused.returned < 2 ^ 32 }
-    ensures { Says (refusal_text refused) room.old room.new result }
+pub fn say_refused(room: &mut [u8], refusal: Refusal, returned: u32) -> usize
+    requires { 32 ≤ length room.old }
+    ensures { Says (refused_text (number_of refusal) returned) room.old room.new result }
 {
-    let number = refused.refusal.number() as u32;
-    say_numbers(room, b"refused ", number, refused.returned as u32)
+    let number = refusal.number() as u32;
+    say_numbers(room, b"refused ", number, returned)
 }
 
 // The checker's answer, its columns from 1.

@@ -6,16 +6,16 @@ use Rattle.desk.proofs.Saying.{said_as}
 use Rattle.desk.proofs.Checked.{text_short, same_rest, candidate_refused, value_small, stands_long, candidate_judged, never_refused}
 use Rattle.desk.proofs.checks.say_verdict.Goals as goal
 
-pub say_refused-requires-clause-returned : goal.say_refused-requires-clause-returned
-say_refused-requires-clause-returned c =
+pub overflow_cast-refused : goal.overflow_cast-refused
+overflow_cast-refused c =
     omega (arith, value_small c.requires.ready (text_short c.args.input.now c.requires.input c.after_end.ensures) c.read_candidate.ensures c.in-Err.is)
 
 pub slice_bounds-check-end : goal.slice_bounds-check-end
 slice_bounds-check-end c =
     stands_long c.requires.ready (text_short c.args.input.now c.requires.input c.after_end.ensures) c.read_candidate.ensures c.in-Ok.is
 
-pub say_refused-requires-in-Err-check-clause-returned : goal.say_refused-requires-in-Err-check-clause-returned
-say_refused-requires-in-Err-check-clause-returned c =
+pub overflow_cast-refused-in-Err-check : goal.overflow_cast-refused-in-Err-check
+overflow_cast-refused-in-Err-check c =
     absurd (never_refused c.requires.ready (text_short c.args.input.now c.requires.input c.after_end.ensures) c.read_candidate.ensures c.in-Ok.is c.check.ensures c.in-Err-check.is)
 
 pub returns-in-Err : goal.returns-in-Err

@@ -9,8 +9,8 @@ use Rattle.desk.proofs.Prepared.{ready_of}
 use Rattle.desk.proofs.Listed.{rows-listed}
 use Rattle.desk.proofs.lists.list_in.Goals as goal
 
-pub say_refused-requires-clause-returned : goal.say_refused-requires-clause-returned
-say_refused-requires-clause-returned c = omega (arith, value_small c.read.ensures.reads c.told-rooms c.told-rooms2 c.told-rooms3 c.in-Err.is)
+pub overflow_cast-refused : goal.overflow_cast-refused
+overflow_cast-refused c = omega (arith, value_small c.read.ensures.reads c.told-rooms c.told-rooms2 c.told-rooms3 c.in-Err.is)
 
 pub say_list-requires : goal.say_list-requires
 say_list-requires c =

@@ -4,8 +4,8 @@ use Rattle.desk.proofs.Saying.{said_as}
 use Rattle.desk.proofs.Listed.{list-refused, length_small, stands_long, list-said, never_refused}
 use Rattle.desk.proofs.lists.say_list.Goals as goal
 
-pub say_refused-requires-clause-returned : goal.say_refused-requires-clause-returned
-say_refused-requires-clause-returned c = omega (arith, length_small c.requires c.generate.ensures.generates c.in-Err.is)
+pub overflow_cast-refused : goal.overflow_cast-refused
+overflow_cast-refused c = omega (arith, length_small c.requires c.generate.ensures.generates c.in-Err.is)
 
 pub slice_bounds-write_list-end : goal.slice_bounds-write_list-end
 slice_bounds-write_list-end c = stands_long c.requires c.generate.ensures.generates c.in-Ok.is
