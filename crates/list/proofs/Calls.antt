@@ -1,8 +1,8 @@
 -- What the calls of the generator promise of its state, and the same of the functions that the numbers name, over the columns
 -- that the step counts.
-use mathlib.Core.Path.{◌≡◌, sym, ◌∙◌, transport}
+use mathlib.Core.Path.{◌≡◌, refl, sym, ◌∙◌, transport}
 use Prim.Native.Nat.{ℕ, suc, ◌+◌}
-use Rattle.std.specs.Prelude.{Option}
+use Rattle.std.specs.Prelude.{Option, Some}
 use Rattle.rule.specs.Func.{Fn}
 use Rattle.graph.specs.Table.{fn_of}
 use Rattle.graph.specs.Lent.{table, MadeIn}
@@ -15,6 +15,7 @@ use Rattle.steps.specs.declared.step.Covers.{Covers}
 use Rattle.list.specs.Generating.{SameRooms, Listable, ListedOf, Memos, ListableIn, ExpandableIn, MemosIn, MemosAfterIn, ListsIn, ListedIn}
 use Rattle.list.specs.declared.generator.Generator.{Generator}
 use Rattle.list.specs.declared.generator.Path.{Path}
+use Rattle.list.proofs.Remembering.{list_memos}
 
 -- A generator with other operations.
 abbrev pub with_operations : Generator → Operations → Generator
@@ -44,7 +45,7 @@ ListPromise g p a b g' r = (m : ℕ) → p.k + m ≡ columns_of g → ListedIn g
 abbrev pub ListsPromise : Generator → Path → ℕ → ℕ → Generator → Option Covers → Type 0
 ListsPromise g p a b g' r = (m : ℕ) → p.k + suc m ≡ columns_of g → ListsIn g g' p m a b r
 
--- What a function of the generator asks, and what each call ensures, clause by clause.
+-- What a function of the generator asks, and what each call ensures, clause by clause, where the memos count too.
 abbrev pub Asked : Generator → Path → ℕ → ℕ → Type 0
 Asked g p a b = record { roots : ListableIn g p a b; memos : MemosIn g }
 
@@ -60,11 +61,14 @@ RestGives o p q g0 g1 o' r = record { same : SameTable o o'; left : RestPromise 
 abbrev pub JoinGives : Operations → Path → Covers → Operations → Option ℕ → Type 0
 JoinGives o p g o' r = record { same : SameTable o o'; made : JoinPromise o p g o' r; memo : HoldsAfterIn o' r }
 
-abbrev pub ListGives : Generator → Path → ℕ → ℕ → Generator → Option ℕ → Type 0
-ListGives g p a b g' r = record { same : SameRooms g g'; list : ListPromise g p a b g' r; memos : MemosAfterIn g' r }
-
 abbrev pub ListsGive : Generator → Path → ℕ → ℕ → Generator → Option Covers → Type 0
 ListsGive g p a b g' r = record { same : SameRooms g g'; lists : ListsPromise g p a b g' r; memos : MemosAfterIn g' r }
+
+-- The memos after a call that is done.
+pub done_memos : {A : Type 0} (g : Generator) (x : A) → MemosAfterIn g (Some x) → MemosIn g
+done_memos g x w =
+    let t = g.operations.now.table.now in
+    list_memos t.columns t.count t.level.now t.low.now t.high.now g.room.now g.at g.operations.now.memo.entries g.past.entries refl w
 
 -- What a list of two named numbers asks, and that it is the list of what they name.
 module _ (g : Generator) {n : ℕ} {p : Path} {q : Path} (c : columns_of g ≡ n) (e : p ≡ q) where

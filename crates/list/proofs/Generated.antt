@@ -6,7 +6,7 @@ use Prim.Native.Nat.{ℕ, zero, suc, ◌+◌, ◌-◌, ◌*◌, ◌^◌, ◌<◌
 use native.Mathlib.Nat.{mul-zero, one-le-pow}
 use native.Mathlib.Omega.{arith}
 use lib.ListN.{length, set}
-use lib.Seq.{sets}
+use lib.Seq.{sets, length-sets}
 use Rattle.std.specs.Prelude.{Option, Some, None}
 use Rattle.rule.specs.Func.{Fn, either, always}
 use Rattle.rule.specs.Cube.{Cube, covered, dashes}
@@ -33,11 +33,11 @@ use Rattle.steps.specs.declared.step.Covers.{Covers}
 use Rattle.listmemo.specs.Copy.{numbers_under}
 use Rattle.listmemo.specs.Past.{Stands, Keeps}
 use Rattle.listmemo.specs.declared.past.Entry.{Entry}
-use Rattle.list.specs.Generating.{named_c, named_rest, named_b, named_a, ExpandableIn, ListsDone, ListsOf, ListedDone, ListedOf, Memos, MemosIn, MemosAfter, PutIn}
+use Rattle.list.specs.Generating.{named_c, named_rest, named_b, named_a, ListableIn, ExpandableIn, ListsDone, ListsOf, ListedDone, ListedOf, Memos, MemosIn, PutIn}
 use Rattle.list.specs.declared.generator.Generator.{Generator}
 use Rattle.list.specs.declared.generator.Path.{Path}
 use Rattle.list.proofs.Remembering.{memos_on, memos_put, place-on, memos_kept}
-use Rattle.list.proofs.Calls.{with_operations, columns_of, ListPromise, Asked, JoinGives, ListsGive, same_listed, same_memos}
+use Rattle.list.proofs.Calls.{with_operations, columns_of, JoinPromise, ListPromise, ListsPromise, JoinGives, ListsGive, done_memos, same_listed, same_memos}
 
 -- A list that is known, with what it names and covers: its promise over that list is one over the rule's.
 pub known_list : {n : ℕ} {c : ℕ} {v : List ℕ} {l : List ℕ} {h : List ℕ} {v' : List ℕ} {l' : List ℕ} {h' : List ℕ} (room : List ℕ) (room' : List ℕ) (at : ℕ) (chosen : ℕ) (w : ℕ) (k : ℕ) (m : ℕ) (L : Fn m) (U : Fn m) (cs : List Cube) (ts : List Tree) (g : ℕ) (c' : ℕ) (at' : ℕ) → list_of m L U ≡ cs → named m L U ≡ ts →
@@ -50,8 +50,9 @@ known_list {n} {c} {v} {l} {h} {v'} {l'} {h'} room room' at chosen w k m L U cs 
       place = y ∙ ap (λ ds. at + length ds) (sym el);
     }
 
--- A generator that is asked for a list, at a path, with a lower and an upper root.
-module _ (g : Generator) (p : Path) {a : ℕ} {b : ℕ} (q : Asked g p a b) where
+-- A generator that is asked for a list, at a path, with a lower and an upper root. Nothing is asked of its memos, but where a law
+-- is of them.
+module _ (g : Generator) (p : Path) {a : ℕ} {b : ℕ} (q : ListableIn g p a b) where
   -- The functions of both roots.
   abbrev lower : (m : ℕ) → Fn m
   lower m = fn_of (table g.operations.now.table.now) p.k m a
@@ -67,7 +68,7 @@ module _ (g : Generator) (p : Path) {a : ℕ} {b : ℕ} (q : Asked g p a b) wher
   unfolding ListedOf numbers_under
   none-listed e m s =
       let t = g.operations.now.table.now in
-      known_list g.room.now g.room.now g.at p.chosen p.weight p.k m _ _ [] [] 0 t.count g.at (list_step1 m _ _ (lower_zero e m)) (named_step1 m _ _ (lower_zero e m)) (run_none q.roots.roots.sound)
+      known_list g.room.now g.room.now g.at p.chosen p.weight p.k m _ _ [] [] 0 t.count g.at (list_step1 m _ _ (lower_zero e m)) (named_step1 m _ _ (lower_zero e m)) (run_none q.roots.sound)
       (record { number = constant-refers (table t) t.count p.k 0 (omega arith); means = fn_zero (table t) p.k m ∙ sym (cover-none m) })
       refl
       (omega arith)
@@ -79,7 +80,7 @@ module _ (g : Generator) (p : Path) {a : ℕ} {b : ℕ} (q : Asked g p a b) wher
       must_be_false (always false m (lower m))
       (λ e.
       d
-      (equal_numbers t.columns (table t) t.count q.roots.roots.sound.good m p.k a 0 s q.roots.roots.first (constant-refers (table t) t.count p.k 0 (omega arith))
+      (equal_numbers t.columns (table t) t.count q.roots.sound.good m p.k a 0 s q.roots.first (constant-refers (table t) t.count p.k 0 (omega arith))
       (always-constant false m (lower m) e ∙ sym (fn_zero (table t) p.k m))))
 
   upper_one : b ≡ 1 → (m : ℕ) → always true m (upper m) ≡ true
@@ -87,7 +88,7 @@ module _ (g : Generator) (p : Path) {a : ℕ} {b : ℕ} (q : Asked g p a b) wher
 
   -- The place leaves room to count one cube.
   pub put_asks : g.at < 2 ^ 32
-  put_asks = omega (arith, q.roots.place, one-le-pow (columns_of g - p.k) 3 (omega arith))
+  put_asks = omega (arith, q.place, one-le-pow (columns_of g - p.k) 3 (omega arith))
 
   module _ {g' : Generator} (d : PutIn g p.chosen g') where
     pub one_listed : (a ≡ 0 → ⊥) → b ≡ 1 → ListPromise g p a b g' (Some 1)
@@ -96,13 +97,13 @@ module _ (g : Generator) (p : Path) {a : ℕ} {b : ℕ} (q : Asked g p a b) wher
         let t = g.operations.now.table.now in
         same_listed g g' d.operations p a b (Some 1) d.place
         (λ m s.
-        known_list g.room.now g'.room.now g.at p.chosen p.weight p.k m _ _ (dashes m ∷ []) [] 1 t.count (g.at + 1) (list_step2 m _ _ (lower_not_zero z m s) (upper_one e m)) (named_step2 m _ _ (lower_not_zero z m s) (upper_one e m)) (run_none q.roots.roots.sound)
+        known_list g.room.now g'.room.now g.at p.chosen p.weight p.k m _ _ (dashes m ∷ []) [] 1 t.count (g.at + 1) (list_step2 m _ _ (lower_not_zero z m s) (upper_one e m)) (named_step2 m _ _ (lower_not_zero z m s) (upper_one e m)) (run_none q.roots.sound)
         (record { number = constant-refers (table t) t.count p.k 1 (omega arith); means = fn_one (table t) p.k m ∙ sym (cover_all m) })
         (d.room ∙ ap (set g.room.now g.at) (omega (arith, ap (λ x. p.weight * x) (number-dashes m), mul-zero p.weight)))
         refl)
 
-    pub one_memos : MemosIn g'
-    one_memos = same_memos g g' d.operations d.past d.place (memos_put q.roots.roots.sound q.memos _ d.room)
+    pub one_memos : MemosIn g → MemosIn g'
+    one_memos w = same_memos g g' d.operations d.past d.place (memos_put q.roots.sound w _ d.room)
 
   -- Otherwise a column is left.
   upper_not_one : (b ≡ 1 → ⊥) → (m : ℕ) → p.k + m ≡ columns_of g → always true m (upper m) ≡ false
@@ -111,14 +112,14 @@ module _ (g : Generator) (p : Path) {a : ℕ} {b : ℕ} (q : Asked g p a b) wher
       must_be_false (always true m (upper m))
       (λ e.
       d
-      (equal_numbers t.columns (table t) t.count q.roots.roots.sound.good m p.k b 1 s q.roots.roots.second (constant-refers (table t) t.count p.k 1 (omega arith))
+      (equal_numbers t.columns (table t) t.count q.roots.sound.good m p.k b 1 s q.roots.second (constant-refers (table t) t.count p.k 1 (omega arith))
       (always-constant true m (upper m) e ∙ sym (fn_one (table t) p.k m))))
 
   pub expands : (a ≡ 0 → ⊥) → (b ≡ 1 → ⊥) → ExpandableIn g p a b
-  expands d e = record { listable = q.roots; column = below q.roots.roots.column (λ s. ends (omega arith)) }
+  expands d e = record { listable = q; column = below q.roots.column (λ s. ends (omega arith)) }
     where
       ends : p.k + 0 ≡ columns_of g → ⊥
-      ends s = clash (no_step-left (lower 0) (upper 0) (q.roots.inside 0 s) (lower_not_zero d 0 s)) (upper_not_one e 0 s)
+      ends s = clash (no_step-left (lower 0) (upper 0) (q.inside 0 s) (lower_not_zero d 0 s)) (upper_not_one e 0 s)
 
       below : p.k ≤ columns_of g → (p.k ≡ columns_of g → ⊥) → p.k < columns_of g
       below u f = omega arith
@@ -138,7 +139,7 @@ module _ (g : Generator) (p : Path) {a : ℕ} {b : ℕ} (q : Asked g p a b) wher
     named-is m s = named_step3 m _ _ (lower_not_zero dl (suc m) s) (upper_not_one du (suc m) s)
 
     -- What does not fit in the step does not fit.
-    short-listed : (g' : Generator) {r : Option ℕ} → r ≡ None → length g'.room.now ≡ length g.room.now →
+    short-listed : (g' : Generator) {r : Option ℕ} → r ≡ None → ((m : ℕ) → p.k + suc m ≡ columns_of g → length g'.room.now ≡ length g.room.now) →
         ((m : ℕ) → p.k + suc m ≡ columns_of g →
         (let t = g.operations.now.table.now in
         let t' = g'.operations.now.table.now in
@@ -150,23 +151,20 @@ module _ (g : Generator) (p : Path) {a : ℕ} {b : ℕ} (q : Asked g p a b) wher
         let t' = g'.operations.now.table.now in
         subst⁻¹ (ListPromise g p a b g') e
         (for_step _
-        (λ m s. record { short = subst⁻¹ (Short t.columns t.count t.level.now t.low.now t.high.now t'.level.now t'.low.now t'.high.now) (named-is m s) (h m s); room-kept = u }))
+        (λ m s. record { short = subst⁻¹ (Short t.columns t.count t.level.now t.low.now t.high.now t'.level.now t'.low.now t'.high.now) (named-is m s) (h m s); room-kept = u m s }))
 
-    pub three_full : {g₁ : Generator} {r : Option ℕ} → r ≡ None → ListsGive g p a b g₁ None → ListPromise g p a b g₁ r
+    pub three_full : (g₁ : Generator) {r : Option ℕ} → r ≡ None → ListsPromise g p a b g₁ None → ListPromise g p a b g₁ r
     unfolding ListsOf
-    three_full {g₁} e h = short-listed g₁ e h.same.long (λ m s. short-more _ _ (h.lists m s).short)
+    three_full g₁ e h = short-listed g₁ e (λ m s. (h m s).room-kept) (λ m s. short-more _ _ (h m s).short)
 
     -- After the three lists.
-    module _ {g₁ : Generator} (s : Covers) (h : ListsGive g p a b g₁ (Some s)) where
+    module _ (g₁ : Generator) (s : Covers) (columns : columns_of g₁ ≡ columns_of g) (h : ListsPromise g p a b g₁ (Some s)) where
       three : (m : ℕ) → p.k + suc m ≡ columns_of g →
           (let t = g.operations.now.table.now in
           let t₁ = g₁.operations.now.table.now in
           ListsDone t.columns t.count t.level.now t.low.now t.high.now t₁.level.now t₁.low.now t₁.high.now g.room.now g₁.room.now g.at p.chosen p.weight p.k m (lower (suc m)) (upper (suc m)) s.g0 s.g1 s.gs t₁.count g₁.at)
       unfolding ListsOf
-      three m i = h.lists m i
-
-      columns : columns_of g₁ ≡ columns_of g
-      columns = h.same.table.slices.columns
+      three m i = h m i
 
       pub join_asks : CoversIn g₁.operations.now p.k s
       join_asks =
@@ -176,10 +174,6 @@ module _ (g : Generator) (p : Path) {a : ℕ} {b : ℕ} (q : Asked g p a b) wher
           subst⁻¹ (λ n. ThreeRoots n t₁.count t₁.level.now t₁.low.now t₁.high.now p.k s.g0 s.g1 s.gs) columns
           (record { sound = d.run.sound; column = u; cover0 = d.cover0.number; cover1 = d.cover1.number; cover_c = d.cover_c.number })
 
-      pub three_memos : MemosIn g₁
-      unfolding MemosAfter
-      three_memos = h.memos
-
       -- The cover that is made is that of the step's result.
       cover-is : (m : ℕ) → p.k + suc m ≡ columns_of g → joined_covers g₁.operations.now p.k m s ≡ covered (suc m) (result m (list_of m) (lower (suc m)) (upper (suc m)))
       cover-is m i =
@@ -188,23 +182,25 @@ module _ (g : Generator) (p : Path) {a : ℕ} {b : ℕ} (q : Asked g p a b) wher
           sym (cover-step m (list_of m) _ _)
 
       -- What is made is the cover of the step, over the columns that the step counts.
-      made-is : {o : Operations} (r : Option ℕ) → JoinGives g₁.operations.now p s o r → (m : ℕ) → p.k + suc m ≡ columns_of g →
+      made-is : (o : Operations) (r : Option ℕ) → JoinPromise g₁.operations.now p s o r → (m : ℕ) → p.k + suc m ≡ columns_of g →
           (let t = g.operations.now.table.now in
           let t₁ = g₁.operations.now.table.now in
           MadeOf t.columns t₁.count t₁.level.now t₁.low.now t₁.high.now o.table.now.level.now o.table.now.low.now o.table.now.high.now p.k (suc m) (g_of m (list_of m) (lower (suc m)) (upper (suc m))) o.table.now.count r)
       unfolding g_of
-      made-is {o} r k m i =
+      made-is o r k m i =
           let t₁ = g₁.operations.now.table.now in
           transport (λ j. MadeOf (columns j) t₁.count t₁.level.now t₁.low.now t₁.high.now o.table.now.level.now o.table.now.low.now o.table.now.high.now p.k (suc m) (cover-is m i j) o.table.now.count r)
-          (k.made m (i ∙ sym columns))
+          (k m (i ∙ sym columns))
 
-      pub cover_full : {o : Operations} {r : Option ℕ} → r ≡ None → JoinGives g₁.operations.now p s o None → ListPromise g p a b (with_operations g₁ o) r
+      pub cover_full : (o : Operations) {r : Option ℕ} → r ≡ None → JoinPromise g₁.operations.now p s o None → ListPromise g p a b (with_operations g₁ o) r
       unfolding MadeOf
-      cover_full {o} e k =
-          short-listed (with_operations g₁ o) e h.same.long (λ m i. run_short _ _ (three m i).run (lacking_short (made-is None k m i)))
+      cover_full o e k =
+          short-listed (with_operations g₁ o) e
+          (λ m i. ap length (three m i).written ∙ length-sets g.room.now g.at (numbers_under p.chosen p.weight (result m (list_of m) (lower (suc m)) (upper (suc m)))))
+          (λ m i. run_short _ _ (three m i).run (lacking_short (made-is o None k m i)))
 
       -- After the cover.
-      module _ {o : Operations} (x : ℕ) (k : JoinGives g₁.operations.now p s o (Some x)) where
+      module _ (o : Operations) (x : ℕ) (k : JoinPromise g₁.operations.now p s o (Some x)) where
         listed : (m : ℕ) → p.k + m ≡ columns_of g →
             (let t = g.operations.now.table.now in
             ListedDone t.columns t.count t.level.now t.low.now t.high.now o.table.now.level.now o.table.now.low.now o.table.now.high.now g.room.now g₁.room.now g.at p.chosen p.weight p.k m (lower m) (upper m) x o.table.now.count g₁.at)
@@ -213,7 +209,7 @@ module _ (g : Generator) (p : Path) {a : ℕ} {b : ℕ} (q : Asked g p a b) wher
             for_step _
             (λ m i.
             let d = three m i in
-            let f = made-is (Some x) k m i in
+            let f = made-is o (Some x) k m i in
             known_list g.room.now g₁.room.now g.at p.chosen p.weight p.k (suc m) _ _ _ _ x o.table.now.count g₁.at (list-is m i) (named-is m i) (run_then _ _ d.run (built-run f)) (built-names f) d.written d.place)
 
         pub list-listed : ListPromise g p a b (with_operations g₁ o) (Some x)
@@ -222,19 +218,28 @@ module _ (g : Generator) (p : Path) {a : ℕ} {b : ℕ} (q : Asked g p a b) wher
 
         -- The place moves on.
         pub list_place : g.at ≤ g₁.at
-        list_place = place-on q.roots listed
+        list_place = place-on q listed
 
-        cover_memos : MemosIn (with_operations g₁ o)
+    -- The memos after the three lists, and after their cover.
+    module _ {g₁ : Generator} (s : Covers) (h : ListsGive g p a b g₁ (Some s)) where
+      pub three_memos : MemosIn g₁
+      three_memos = done_memos g₁ s h.memos
+
+      module _ {o : Operations} (x : ℕ) (k : JoinGives g₁.operations.now p s o (Some x)) where
+        pub cover_memos : MemosIn (with_operations g₁ o)
         unfolding MadeOf HoldsAfter
         cover_memos =
+            let columns = h.same.table.slices.columns in
             let u = (expands dl du).column in
             let m : ℕ = columns_of g - (p.k + 1) in
             let i : p.k + suc m ≡ columns_of g = omega (arith, u) in
-            memos_on join_asks.sound three_memos _ k.same.slices.columns (built-run (k.made m (i ∙ sym columns))) k.memo
+            memos_on (join_asks g₁ s columns h.lists).sound three_memos _ k.same.slices.columns (built-run (k.made m (i ∙ sym columns))) k.memo
 
-        -- The list may be kept.
+        -- Once the list is kept.
         pub list-memos : {past : List Entry} →
             ((n : ℕ) (c : ℕ) (v : List ℕ) (l : List ℕ) (h : List ℕ) (room : List ℕ) (at : ℕ) → Keeps n c v l h room at g₁.past.entries → Stands n c v l h room at a b p.k x g.at (g₁.at - g.at) p.chosen → Keeps n c v l h room at past) →
             (let t = o.table.now in
             Memos t.columns t.count t.level.now t.low.now t.high.now g₁.room.now g₁.at o.memo.entries past)
-        list-memos f = memos_kept q.roots listed (k.same.slices.columns ∙ columns) cover_memos f
+        list-memos f =
+            let columns = h.same.table.slices.columns in
+            memos_kept q (listed g₁ s columns h.lists o x k.made) (k.same.slices.columns ∙ columns) cover_memos f

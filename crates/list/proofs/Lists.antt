@@ -1,5 +1,5 @@
 -- The three lists of a step as the code calls for them: what stands after each call, and one law for what each call asks and
--- one for each way out.
+-- one for each way out. None of them asks anything of the memos; two more say how these stay right.
 use mathlib.Core.Path.{◌≡◌, refl, ◌∙◌, subst, subst⁻¹}
 use Prim.Native.Nat.{ℕ, suc, ◌+◌, ◌-◌, ◌*◌, ◌^◌, ◌≤◌}
 use native.Mathlib.Omega.{arith}
@@ -7,18 +7,17 @@ use Rattle.std.specs.Prelude.{Option, Some, None}
 use Rattle.rule.specs.Func.{Fn}
 use Rattle.graph.specs.Table.{fn_of}
 use Rattle.graph.specs.Lent.{table}
-use Rattle.memo.specs.Memo.{HoldsAfter}
 use Rattle.memo.specs.declared.build.Operations.{Operations}
 use Rattle.steps.specs.Step.{KeptDone, KeptOf, LeftIn, RestOf, SixRoots}
 use Rattle.steps.specs.declared.step.Kept.{Kept}
 use Rattle.steps.specs.declared.step.Covers.{Covers}
-use Rattle.list.specs.Generating.{ListableIn, ExpandableIn, MemosIn, MemosAfter, ListsOf, ListedOf, next_path}
+use Rattle.list.specs.Generating.{ListableIn, ExpandableIn, MemosIn, ListsOf, ListedOf, next_path}
 use Rattle.list.specs.declared.generator.Generator.{Generator}
 use Rattle.list.specs.declared.generator.Path.{Path}
 use Rattle.list.proofs.Listing.{short-kept, StateA, StateB, StateR, after_a, after_b, after-rest, after_c}
 use Rattle.list.proofs.Asking.{Step, ask_a, ask_b, ask_rest, ask_c, full_a, full_b, full_rest, full_c}
 use Rattle.list.proofs.Remembering.{kept_memos, rest_memos}
-use Rattle.list.proofs.Calls.{with_operations, columns_of, ListsPromise, StepAsked, KeepGives, RestGives, ListGives, asks_at, listed_as, rest_as}
+use Rattle.list.proofs.Calls.{with_operations, columns_of, KeepPromise, RestPromise, ListPromise, ListsPromise, StepAsked, KeepGives, RestGives, asks_at, listed_as, rest_as}
 
 -- A generator that is asked for the lists of a step, at a path, with a lower and an upper root.
 module _ (g : Generator) (p : Path) (a : ℕ) (b : ℕ) where
@@ -33,7 +32,6 @@ module _ (g : Generator) (p : Path) (a : ℕ) (b : ℕ) where
   pub record AfterKeep (o : Operations) (q : Kept) : Type 0 where
     pub asked : ExpandableIn g p a b
     pub columns : o.table.now.columns ≡ columns_of g
-    pub memos : MemosIn (with_operations g o)
     pub state : (m : ℕ) → p.k + suc m ≡ columns_of g →
         (let t = g.operations.now.table.now in
         KeptDone t.columns t.count t.level.now t.low.now t.high.now o.table.now.level.now o.table.now.low.now o.table.now.high.now p.k m (lower m) (upper m) q.l0 q.l1 q.u0 q.u1 q.p0 q.p1 o.table.now.count)
@@ -42,7 +40,6 @@ module _ (g : Generator) (p : Path) (a : ℕ) (b : ℕ) where
   pub record AfterA (g₁ : Generator) (q : Kept) (g0 : ℕ) : Type 0 where
     pub asked : ExpandableIn g p a b
     pub columns : columns_of g₁ ≡ columns_of g
-    pub memos : MemosIn g₁
     pub state : (m : ℕ) → p.k + suc m ≡ columns_of g →
         (let t = g.operations.now.table.now in
         let t₁ = g₁.operations.now.table.now in
@@ -52,7 +49,6 @@ module _ (g : Generator) (p : Path) (a : ℕ) (b : ℕ) where
   pub record AfterB (g₁ : Generator) (q : Kept) (g0 : ℕ) (g1 : ℕ) : Type 0 where
     pub asked : ExpandableIn g p a b
     pub columns : columns_of g₁ ≡ columns_of g
-    pub memos : MemosIn g₁
     pub state : (m : ℕ) → p.k + suc m ≡ columns_of g →
         (let t = g.operations.now.table.now in
         let t₁ = g₁.operations.now.table.now in
@@ -62,7 +58,6 @@ module _ (g : Generator) (p : Path) (a : ℕ) (b : ℕ) where
   pub record AfterRest (g₁ : Generator) (g0 : ℕ) (g1 : ℕ) (x : ℕ) (y : ℕ) : Type 0 where
     pub asked : ExpandableIn g p a b
     pub columns : columns_of g₁ ≡ columns_of g
-    pub memos : MemosIn g₁
     pub state : (m : ℕ) → p.k + suc m ≡ columns_of g →
         (let t = g.operations.now.table.now in
         let t₁ = g₁.operations.now.table.now in
@@ -84,20 +79,18 @@ module _ (g : Generator) (p : Path) (a : ℕ) (b : ℕ) where
     with-columns f = f (columns_of g - (p.k + 1)) (omega (arith, s.column))
 
   -- P0 and P1 do not fit.
-  pub kept_full : {o : Operations} {r : Option Covers} → r ≡ None → KeepGives g.operations.now p a b o None → ListsPromise g p a b (with_operations g o) r
+  pub kept_full : (o : Operations) {r : Option Covers} → r ≡ None → KeepPromise g.operations.now p a b o None → ListsPromise g p a b (with_operations g o) r
   unfolding ListsOf KeptOf
-  kept_full {o} e h =
-      subst⁻¹ (ListsPromise g p a b (with_operations g o)) e (λ m i. record { short = short-kept m _ _ (h.kept m i); room-kept = refl })
+  kept_full o e h =
+      subst⁻¹ (ListsPromise g p a b (with_operations g o)) e (λ m i. record { short = short-kept m _ _ (h m i); room-kept = refl })
 
-  pub after_keep : {o : Operations} {q : Kept} → StepAsked g p a b → KeepGives g.operations.now p a b o (Some q) → AfterKeep o q
-  unfolding KeptOf HoldsAfter
-  after_keep {q = q} s h =
-      record {
-        asked = s.roots;
-        columns = h.same.slices.columns;
-        memos = kept_memos h.same.slices.columns (Some q) s.roots refl h.kept h.memo s.memos;
-        state = h.kept;
-      }
+  pub after_keep : (o : Operations) {q : Kept} → ExpandableIn g p a b → o.table.now.columns ≡ columns_of g → KeepPromise g.operations.now p a b o (Some q) → AfterKeep o q
+  unfolding KeptOf
+  after_keep o s d h = record { asked = s; columns = d; state = h }
+
+  -- The memos after them.
+  pub keep_memos : {o : Operations} (q : Kept) → StepAsked g p a b → KeepGives g.operations.now p a b o (Some q) → MemosIn (with_operations g o)
+  keep_memos q s h = kept_memos h.same.slices.columns (Some q) s.roots refl h.kept h.memo s.memos
 
 -- List A.
 module _ {g : Generator} {p : Path} {a : ℕ} {b : ℕ} {o : Operations} {q : Kept} (s : AfterKeep g p a b o q) {p₁ : Path} (e : p₁ ≡ next_path p (65536 * p.weight)) where
@@ -106,24 +99,23 @@ module _ {g : Generator} {p : Path} {a : ℕ} {b : ℕ} {o : Operations} {q : Ke
       with-columns g p a b s.asked
       (λ m i. asks_at (with_operations g o) s.columns e (ask_a (step g p a b s.asked m i) (s.state m i)))
 
-  pub a_full : {g₁ : Generator} {r : Option Covers} → r ≡ None → ListGives (with_operations g o) p₁ q.p0 q.u0 g₁ None → ListsPromise g p a b g₁ r
+  pub a_full : (g₁ : Generator) {r : Option Covers} → r ≡ None → ListPromise (with_operations g o) p₁ q.p0 q.u0 g₁ None → ListsPromise g p a b g₁ r
   unfolding ListsOf ListedOf
-  a_full {g₁} d h =
+  a_full g₁ d h =
       subst⁻¹ (ListsPromise g p a b g₁) d
       (λ m i.
       let k = s.state m i in
-      full_a (step g p a b s.asked m i) k (listed_as (with_operations g o) s.columns e g₁ m None (omega (arith, i)) k.kept0 k.upper0 h.list))
+      full_a (step g p a b s.asked m i) k (listed_as (with_operations g o) s.columns e g₁ m None (omega (arith, i)) k.kept0 k.upper0 h))
 
-  pub after_list_a : {g₁ : Generator} {g0 : ℕ} → ListGives (with_operations g o) p₁ q.p0 q.u0 g₁ (Some g0) → AfterA g p a b g₁ q g0
-  unfolding ListedOf MemosAfter
-  after_list_a {g₁} {g0} h =
+  pub after_list_a : (g₁ : Generator) {g0 : ℕ} → columns_of g₁ ≡ o.table.now.columns → ListPromise (with_operations g o) p₁ q.p0 q.u0 g₁ (Some g0) → AfterA g p a b g₁ q g0
+  unfolding ListedOf
+  after_list_a g₁ {g0} d h =
       record {
         asked = s.asked;
-        columns = h.same.table.slices.columns ∙ s.columns;
-        memos = h.memos;
+        columns = d ∙ s.columns;
         state = λ m i.
             let k = s.state m i in
-            after_a i k (listed_as (with_operations g o) s.columns e g₁ m (Some g0) (omega (arith, i)) k.kept0 k.upper0 h.list);
+            after_a i k (listed_as (with_operations g o) s.columns e g₁ m (Some g0) (omega (arith, i)) k.kept0 k.upper0 h);
       }
 
 -- List B.
@@ -133,24 +125,23 @@ module _ {g : Generator} {p : Path} {a : ℕ} {b : ℕ} {g₁ : Generator} {q : 
       with-columns g p a b s.asked
       (λ m i. asks_at g₁ s.columns e (ask_b (step g p a b s.asked m i) (s.state m i)))
 
-  pub b_full : {g₂ : Generator} {r : Option Covers} → r ≡ None → ListGives g₁ p₁ q.p1 q.u1 g₂ None → ListsPromise g p a b g₂ r
+  pub b_full : (g₂ : Generator) {r : Option Covers} → r ≡ None → ListPromise g₁ p₁ q.p1 q.u1 g₂ None → ListsPromise g p a b g₂ r
   unfolding ListsOf ListedOf
-  b_full {g₂} d h =
+  b_full g₂ d h =
       subst⁻¹ (ListsPromise g p a b g₂) d
       (λ m i.
       let k = s.state m i in
-      full_b (step g p a b s.asked m i) k (listed_as g₁ s.columns e g₂ m None (omega (arith, i)) k.kept1 k.upper1 h.list))
+      full_b (step g p a b s.asked m i) k (listed_as g₁ s.columns e g₂ m None (omega (arith, i)) k.kept1 k.upper1 h))
 
-  pub after_list_b : {g₂ : Generator} {g1 : ℕ} → ListGives g₁ p₁ q.p1 q.u1 g₂ (Some g1) → AfterB g p a b g₂ q g0 g1
-  unfolding ListedOf MemosAfter
-  after_list_b {g₂} {g1} h =
+  pub after_list_b : (g₂ : Generator) {g1 : ℕ} → columns_of g₂ ≡ columns_of g₁ → ListPromise g₁ p₁ q.p1 q.u1 g₂ (Some g1) → AfterB g p a b g₂ q g0 g1
+  unfolding ListedOf
+  after_list_b g₂ {g1} d h =
       record {
         asked = s.asked;
-        columns = h.same.table.slices.columns ∙ s.columns;
-        memos = h.memos;
+        columns = d ∙ s.columns;
         state = λ m i.
             let k = s.state m i in
-            after_b i k (listed_as g₁ s.columns e g₂ m (Some g1) (omega (arith, i)) k.kept1 k.upper1 h.list);
+            after_b i k (listed_as g₁ s.columns e g₂ m (Some g1) (omega (arith, i)) k.kept1 k.upper1 h);
       }
 
 -- What A and B leave.
@@ -163,27 +154,29 @@ module _ {g : Generator} {p : Path} {a : ℕ} {b : ℕ} {g₁ : Generator} {q : 
       subst⁻¹ (λ n. SixRoots n t.count t.level.now t.low.now t.high.now (p.k + 1) q.l0 g0 q.l1 g1 q.u0 q.u1) s.columns
       (ask_rest (step g p a b s.asked m i) (s.state m i)))
 
-  pub left_full : {o : Operations} {r : Option Covers} → r ≡ None → RestGives g₁.operations.now p q g0 g1 o None → ListsPromise g p a b (with_operations g₁ o) r
+  pub left_full : (o : Operations) {r : Option Covers} → r ≡ None → RestPromise g₁.operations.now p q g0 g1 o None → ListsPromise g p a b (with_operations g₁ o) r
   unfolding ListsOf
-  left_full {o} d h =
+  left_full o d h =
       subst⁻¹ (ListsPromise g p a b (with_operations g₁ o)) d
       (λ m i.
       let k = s.state m i in
       full_rest (step g p a b s.asked m i) o.table.now.count k
-      (rest_as g₁ o p q None m s.columns (omega (arith, i)) k.lower0 k.cover0 k.lower1 k.cover1 k.upper0 k.upper1 h.left))
+      (rest_as g₁ o p q None m s.columns (omega (arith, i)) k.lower0 k.cover0 k.lower1 k.cover1 k.upper0 k.upper1 h))
 
-  pub after_left : {o : Operations} {x : ℕ} {y : ℕ} → RestGives g₁.operations.now p q g0 g1 o (Some (x, y)) → AfterRest g p a b (with_operations g₁ o) g0 g1 x y
-  unfolding RestOf HoldsAfter
-  after_left {o} {x} {y} h =
-      let columns = h.same.slices.columns ∙ s.columns in
+  pub after_left : (o : Operations) {x : ℕ} {y : ℕ} → o.table.now.columns ≡ columns_of g₁ → RestPromise g₁.operations.now p q g0 g1 o (Some (x, y)) → AfterRest g p a b (with_operations g₁ o) g0 g1 x y
+  unfolding RestOf
+  after_left o {x} {y} d h =
       record {
         asked = s.asked;
-        columns = columns;
-        memos = rest_memos h.same.slices.columns (Some (x, y)) rest_asks refl h.left h.memo s.memos;
+        columns = d ∙ s.columns;
         state = λ m i.
             let k = s.state m i in
-            after-rest k (rest_as g₁ o p q (Some (x, y)) m s.columns (omega (arith, i)) k.lower0 k.cover0 k.lower1 k.cover1 k.upper0 k.upper1 h.left);
+            after-rest k (rest_as g₁ o p q (Some (x, y)) m s.columns (omega (arith, i)) k.lower0 k.cover0 k.lower1 k.cover1 k.upper0 k.upper1 h);
       }
+
+  -- The memos after it.
+  pub left_memos : {o : Operations} (x : ℕ) (y : ℕ) → MemosIn g₁ → RestGives g₁.operations.now p q g0 g1 o (Some (x, y)) → MemosIn (with_operations g₁ o)
+  left_memos x y w h = rest_memos h.same.slices.columns (Some (x, y)) rest_asks refl h.left h.memo w
 
 -- List C.
 module _ {g : Generator} {p : Path} {a : ℕ} {b : ℕ} {g₁ : Generator} {g0 : ℕ} {g1 : ℕ} {x : ℕ} {y : ℕ} (s : AfterRest g p a b g₁ g0 g1 x y) {p₁ : Path} (e : p₁ ≡ next_path p 0) where
@@ -196,16 +189,16 @@ module _ {g : Generator} {p : Path} {a : ℕ} {b : ℕ} {g₁ : Generator} {g0 :
       with-columns g p a b s.asked
       (λ m i. asks_at g₁ s.columns under_dash (ask_c (step g p a b s.asked m i) (s.state m i)))
 
-  pub c_full : {g₂ : Generator} {r : Option Covers} → r ≡ None → ListGives g₁ p₁ x y g₂ None → ListsPromise g p a b g₂ r
+  pub c_full : (g₂ : Generator) {r : Option Covers} → r ≡ None → ListPromise g₁ p₁ x y g₂ None → ListsPromise g p a b g₂ r
   unfolding ListsOf ListedOf
-  c_full {g₂} d h =
+  c_full g₂ d h =
       subst⁻¹ (ListsPromise g p a b g₂) d
       (λ m i.
       let k = s.state m i in
-      full_c (step g p a b s.asked m i) k (listed_as g₁ s.columns under_dash g₂ m None (omega (arith, i)) k.left k.top h.list))
+      full_c (step g p a b s.asked m i) k (listed_as g₁ s.columns under_dash g₂ m None (omega (arith, i)) k.left k.top h))
 
-  pub lists-done : {g₂ : Generator} (gs : ℕ) → ListGives g₁ p₁ x y g₂ (Some gs) → ListsPromise g p a b g₂ (Some (record { g0 = g0; g1 = g1; gs = gs }))
+  pub lists-done : (g₂ : Generator) (gs : ℕ) → ListPromise g₁ p₁ x y g₂ (Some gs) → ListsPromise g p a b g₂ (Some (record { g0 = g0; g1 = g1; gs = gs }))
   unfolding ListsOf ListedOf
-  lists-done {g₂} gs h m i =
+  lists-done g₂ gs h m i =
       let k = s.state m i in
-      after_c i k (listed_as g₁ s.columns under_dash g₂ m (Some gs) (omega (arith, i)) k.left k.top h.list)
+      after_c i k (listed_as g₁ s.columns under_dash g₂ m (Some gs) (omega (arith, i)) k.left k.top h)
