@@ -82,8 +82,8 @@ module _ {n : ℕ} {c : ℕ} {v : List ℕ} {l : List ℕ} {h : List ℕ} {at : 
   unfolding named_a
   full_a K A = record { short = short_a m L U (short-more _ _ (run_short _ _ K.run A.short)); room-kept = A.room-kept }
 
-  pub full_b : {room : List ℕ} {v₁ : List ℕ} {l₁ : List ℕ} {h₁ : List ℕ} {room₁ : List ℕ} {v₂ : List ℕ} {l₂ : List ℕ} {h₂ : List ℕ} {room₂ : List ℕ} {l0 : ℕ} {l1 : ℕ} {u0 : ℕ} {u1 : ℕ} {p1 : ℕ} {g0 : ℕ} {c₁ : ℕ} {at₁ : ℕ} → StateA n c v l h room at chosen w k m L U v₁ l₁ h₁ room₁ l0 l1 u0 u1 p1 g0 c₁ at₁ →
-      ListedFull n c₁ v₁ l₁ h₁ v₂ l₂ h₂ room₁ room₂ at₁ (chosen + w) (2 * w) (k + 1) m (p1_of m (list_of m) L U) U.1 → ListsFull n c v l h v₂ l₂ h₂ room room₂ at chosen w k m L U
+  pub full_b : {room : List ℕ} {v₁ : List ℕ} {l₁ : List ℕ} {h₁ : List ℕ} {room₁ : List ℕ} {v₂ : List ℕ} {l₂ : List ℕ} {h₂ : List ℕ} {room₂ : List ℕ} {l0 : ℕ} {l1 : ℕ} {u0 : ℕ} {u1 : ℕ} {p1 : ℕ} {g0 : ℕ} {c₁ : ℕ} {at₁ : ℕ} {x : ℕ} {z : ℕ} → StateA n c v l h room at chosen w k m L U v₁ l₁ h₁ room₁ l0 l1 u0 u1 p1 g0 c₁ at₁ →
+      ListedFull n c₁ v₁ l₁ h₁ v₂ l₂ h₂ room₁ room₂ at₁ x z (k + 1) m (p1_of m (list_of m) L U) U.1 → ListsFull n c v l h v₂ l₂ h₂ room room₂ at chosen w k m L U
   unfolding named_b
   full_b {room = room} A B =
       record {
