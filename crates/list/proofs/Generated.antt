@@ -36,7 +36,7 @@ use Rattle.listmemo.specs.declared.past.Entry.{Entry}
 use Rattle.list.specs.Generating.{named_c, named_rest, named_b, named_a, ListableIn, ExpandableIn, ListsDone, ListsOf, ListedDone, ListedOf, Memos, MemosIn, PutIn}
 use Rattle.list.specs.declared.generator.Generator.{Generator}
 use Rattle.list.specs.declared.generator.Path.{Path}
-use Rattle.list.proofs.Remembering.{memos_on, memos_put, place-on, memos_kept}
+use Rattle.list.proofs.Remembering.{memos_on, memos_put, place-on, may_be_kept, memos_kept}
 use Rattle.list.proofs.Calls.{with_operations, columns_of, JoinPromise, ListPromise, ListsPromise, JoinGives, ListsGive, done_memos, same_listed, same_memos}
 
 -- A list that is known, with what it names and covers: its promise over that list is one over the rule's.
@@ -219,6 +219,10 @@ module _ (g : Generator) (p : Path) {a : ℕ} {b : ℕ} (q : ListableIn g p a b)
         -- The place moves on.
         pub list_place : g.at ≤ g₁.at
         list_place = place-on q listed
+
+        -- The list may be kept: its column fits a key.
+        pub keep_asks : p.k < 64
+        keep_asks = (may_be_kept q listed).0
 
     -- The memos after the three lists, and after their cover.
     module _ {g₁ : Generator} (s : Covers) (h : ListsGive g p a b g₁ (Some s)) where

@@ -27,7 +27,7 @@ use Rattle.list.proofs.Calls.{Asked, ListPromise, same_listed, same_memos}
 abbrev pub FindGives : List Entry → ℕ → ℕ → ℕ → Option Found → Type 0
 FindGives past a b k r = (n : ℕ) (c : ℕ) (v : List ℕ) (l : List ℕ) (h : List ℕ) (room : List ℕ) (at : ℕ) → Keeps n c v l h room at past → FoundOf n c v l h room at a b k r
 
--- What looking a list up asks: 512 entries, and a column that fits a key.
+-- What looking a list up asks is a column that fits a key; and the memo has its 512 entries.
 pub find_asks : (g : Generator) (p : Path) {a : ℕ} {b : ℕ} → Asked g p a b → (length g.past.entries ≡ 512) × (p.k < 64)
 find_asks g p q = (q.memos.lists.long, omega (arith, q.roots.roots.column, q.roots.roots.sound.columns))
 

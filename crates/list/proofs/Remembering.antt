@@ -26,12 +26,15 @@ use Rattle.listmemo.proofs.Staying.{keeps_stay, keeps_none}
 use Rattle.listmemo.proofs.Copying.{stands_listed}
 use Rattle.list.specs.Generating.{Listable, Expandable, ListedDone, Memos, MemosAfter}
 
--- A memo of lists without entries, before the first list.
-pub memos_begin : {n : ℕ} {c : ℕ} {v : List ℕ} {l : List ℕ} {h : List ℕ} {room : List ℕ} {at : ℕ} {memo : List ℕ} {past : List Entry} → Holds n c v l h memo → past ≡ replicate 512 no_entry → Memos n c v l h room at memo past
-memos_begin {n} {c} {v} {l} {h} {room} {at} o e = record { operations = o; lists = subst⁻¹ (Keeps n c v l h room at) e keeps_none }
-
+-- Memos without entries, before the first list.
 pub memos_none : {n : ℕ} {c : ℕ} {v : List ℕ} {l : List ℕ} {h : List ℕ} {room : List ℕ} {at : ℕ} → Memos n c v l h room at (replicate {A = ℕ} 1024 0) (replicate 512 no_entry)
-memos_none = memos_begin holds-none refl
+memos_none = record { operations = holds-none; lists = keeps_none }
+
+-- So a memo of lists without entries beside any right memo of operations.
+pub memos_begin : {n : ℕ} {c : ℕ} {v : List ℕ} {l : List ℕ} {h : List ℕ} {room : List ℕ} {at : ℕ} {memo : List ℕ} {past : List Entry} → Holds n c v l h memo → past ≡ replicate 512 no_entry → Memos n c v l h room at memo past
+memos_begin {n} {c} {v} {l} {h} {room} {at} o e =
+    let w : Memos n c v l h room at (replicate {A = ℕ} 1024 0) (replicate 512 no_entry) = memos_none in
+    record { operations = o; lists = subst⁻¹ (Keeps n c v l h room at) e w.lists }
 
 module _ {n : ℕ} {c : ℕ} {v : List ℕ} {l : List ℕ} {h : List ℕ} {room : List ℕ} {at : ℕ} {memo : List ℕ} {past : List Entry} (s : Sound n c v l h) (q : Memos n c v l h room at memo past) where
   -- After operations that leave their own memo right. The table's columns are what they were.

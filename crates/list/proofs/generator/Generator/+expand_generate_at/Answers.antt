@@ -5,8 +5,8 @@ use native.Mathlib.Omega.{arith}
 use Rattle.list.specs.Generating.{MemosAfter}
 use Rattle.list.proofs.Calls.{done_memos}
 use Rattle.list.proofs.Lists.{kept_full, after_keep, keep_memos, a_asks, a_full, after_list_a, b_asks, b_full, after_list_b, rest_asks, left_full, after_left, left_memos, c_asks, c_full, lists-done}
-use Rattle.list.proofs.Hit.{copy_asks, hit_listed, hit_memos}
-use Rattle.list.proofs.Generated.{none-listed, put_asks, one_listed, one_memos, expands, three_full, join_asks, cover_full, list_place, list-listed, list-memos}
+use Rattle.list.proofs.Hit.{find_asks, copy_asks, hit_listed, hit_memos}
+use Rattle.list.proofs.Generated.{none-listed, put_asks, one_listed, one_memos, expands, three_full, join_asks, cover_full, list_place, keep_asks, list-listed, list-memos}
 use Rattle.list.proofs.generator.Generator.+expand_generate_at.Goals as goal
 
 pub expand-returns-in_err-kept-clause-lists : goal.expand-returns-in_err-kept-clause-lists
@@ -82,6 +82,9 @@ pub generate_at-returns-then-u-eq1-clause-memos : goal.generate_at-returns-then-
 unfolding MemosAfter
 generate_at-returns-then-u-eq1-clause-memos t c = one_memos c.args.self.now c.args.path c.requires.roots c.put.ensures.put c.requires.memos
 
+pub generate_at-find-requires : goal.generate_at-find-requires
+generate_at-find-requires t c = (find_asks c.args.self.now c.args.path c.requires).1
+
 pub generate_at-copy-requires : goal.generate_at-copy-requires
 generate_at-copy-requires t c = copy_asks c.args.self.now c.args.path c.in-Some.found c.requires c.in-Some.ensures
 
@@ -107,6 +110,9 @@ generate_at-returns-in_err-cover-clause-list t c = cover_full c.args.self.now c.
 
 pub generate_at-overflow_sub-found : goal.generate_at-overflow_sub-found
 generate_at-overflow_sub-found t c = list_place c.args.self.now c.args.path c.requires.roots c.if-l-eq0.false c.if-u-eq1.false c.expand.new.self c.in_ok-covers.covers c.in_ok-covers.ensures.same.table.slices.columns c.in_ok-covers.ensures.lists c.join.new.operations c.in_ok-cover.cover c.in_ok-cover.ensures.made
+
+pub generate_at-keep-requires : goal.generate_at-keep-requires
+generate_at-keep-requires t c = keep_asks c.args.self.now c.args.path c.requires.roots c.if-l-eq0.false c.if-u-eq1.false c.expand.new.self c.in_ok-covers.covers c.in_ok-covers.ensures.same.table.slices.columns c.in_ok-covers.ensures.lists c.join.new.operations c.in_ok-cover.cover c.in_ok-cover.ensures.made
 
 pub generate_at-returns-clause-list : goal.generate_at-returns-clause-list
 generate_at-returns-clause-list t c = list-listed c.args.self.now c.args.path c.requires.roots c.if-l-eq0.false c.if-u-eq1.false c.expand.new.self c.in_ok-covers.covers c.in_ok-covers.ensures.same.table.slices.columns c.in_ok-covers.ensures.lists c.join.new.operations c.in_ok-cover.cover c.in_ok-cover.ensures.made
