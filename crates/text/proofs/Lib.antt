@@ -1,6 +1,7 @@
 -- The theorems about texts, and the laws that the functions' proofs cite, one concept to a file.
 pub mod Examples
 pub mod NextLine
+pub mod Places
 pub mod KindNames
 pub mod Room
 pub mod Numerals

@@ -15,7 +15,7 @@ fn put_cubes(text: &[u8], room: &mut [u32]) -> usize
     ensures put { Put room.old 0 (row_numbers (lines text.now)) room.new result }
     ensures within { result ≤ length room.new }
 {
-    let mut reader = Reader { rest: text };
+    let mut reader = Reader { text, at: 0 };
     let mut place = 0;
     while let Some(line) = reader.next_line() {
         match line {

@@ -9,11 +9,11 @@ use line::meaning::Line;
 pub fn after_end(text: &[u8]) -> &[u8]
     ensures { result.now ≡ after_end text.now }
 {
-    let mut reader = Reader { rest: text };
+    let mut reader = Reader { text, at: 0 };
     while let Some(line) = reader.next_line() {
         if let Line::End = line {
             break;
         }
     }
-    reader.rest
+    &reader.text[reader.at..]
 }

@@ -35,7 +35,7 @@ fn name_rows(text: &[u8], operations: &mut Operations<'_, '_>, kind: Kind) -> Op
     ensures named { RowsNamedIn operations.old (kind_of kind) (rows_in operations.old.table.now.columns (lines text.now)) operations.new result }
     ensures memo { HoldsAfterIn operations.new result }
 {
-    let mut reader = Reader { rest: text };
+    let mut reader = Reader { text, at: 0 };
     let mut sets = Sets { on: 0, other: 0 };
     while let Some(line) = reader.next_line() {
         match line {

@@ -187,7 +187,7 @@ pub fn judge(asked: u16, text: &[u8]) -> Result<Shape, u32>
     requires { length text.now ≤ 32768 }
     ensures { result ≡ judged (outcome asked text.now) }
 {
-    let mut reader = Reader { rest: text };
+    let mut reader = Reader { text, at: 0 };
     let mut state = State::nothing_said();
     let mut k: u32 = 1;
     while let Some(line) = reader.next_line() {

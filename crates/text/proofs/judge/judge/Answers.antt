@@ -1,6 +1,6 @@
 -- `text::judge::judge` meets its contract. The loop's invariant: what was said so far and what is left of the text give the whole answer,
 -- and the rows and the lines so far are no more than the bytes. The measure is what is left of the text.
-use Rattle.std.proofs.Common.{◌≡◌, sym, ap, ◌∙◌, arith}
+use Rattle.std.proofs.Common.{◌≡◌, sym, ap, ◌∙◌, drop, arith}
 use Rattle.line.specs.Bytes.{lines}
 use Rattle.text.specs.Outcome.{start, finish, run, outcome}
 use Rattle.text.specs.Judged.{judged_plus, judged}
@@ -43,7 +43,7 @@ loop-line-preserved c =
 pub returns : goal.returns
 returns c =
     let l = c.loop-line in
-    let done : run c.args.asked l.state l.k (lines l.reader.rest.now) ≡ finish l.state l.k = elim c.match-next_line.branch [
+    let done : run c.args.asked l.state l.k (lines (drop l.reader.at l.reader.text.now)) ≡ finish l.state l.k = elim c.match-next_line.branch [
       | in-Some+in-Ended w ↦
           line_ending _ _ l.state l.k _ _ (took w.in-Some.is c.next_line.ensures.line c.next_line.ensures.rest)
           (sym w.in-Ended.is ∙ w.take.ensures)

@@ -1,23 +1,33 @@
 -- `text::reader::Reader::next_line` meets its contract: with no line left, and with one.
-use Rattle.std.proofs.Common.{ap, ◌∙◌, length, drop, rules, ◌+◌}
-use Rattle.std.proofs.lemmas.List.{drop_min}
-use Rattle.line.proofs.Runs.{take_rest}
-use Rattle.text.specs.Reader.{rest_after}
-use Rattle.text.proofs.NextLine.{none_next, none_rest, some_next}
+use Rattle.std.proofs.Common.{arith}
+use lib.ListN.{length-drop}
+use Rattle.text.proofs.NextLine.{none_next, some_next}
+use Rattle.text.proofs.Places.{taken_past, taken_next, taken-rest, taken_within}
 use Rattle.text.proofs.reader.Reader.next_line.Goals as goal
 
-pub returns-then-is_empty-clause-line : goal.returns-then-is_empty-clause-line
-returns-then-is_empty-clause-line c = none_next _ (search rules)
+pub returns-then-self-clause-line : goal.returns-then-self-clause-line
+returns-then-self-clause-line c = none_next _ (omega (arith, length-drop c.args.self.now.at c.args.self.now.text.now, c.if-self.true))
 
-pub returns-then-is_empty-clause-rest : goal.returns-then-is_empty-clause-rest
-returns-then-is_empty-clause-rest c = none_rest _ (search rules)
+pub returns-then-self-clause-rest : goal.returns-then-self-clause-rest
+returns-then-self-clause-rest c = taken-rest _ _ _ (taken_past c.args.self.now.text.now c.args.self.now.at c.if-self.true)
+
+pub returns-then-self-clause-taken : goal.returns-then-self-clause-taken
+returns-then-self-clause-taken c = taken_past _ _ c.if-self.true
 
 pub returns-clause-line : goal.returns-clause-line
-returns-clause-line c = some_next _ (λ e. search rules) _ c.line_at-line.ensures _ c.line_meaning-told.ensures
+returns-clause-line c =
+    some_next _ (λ z. omega (arith, z, length-drop c.args.self.now.at c.args.self.now.text.now, c.if-self.false)) _ c.line_at-line.ensures _
+    c.line_meaning-told.ensures
 
 pub returns-clause-rest : goal.returns-clause-rest
-unfolding rest_after
 returns-clause-rest c =
-    let text = c.args.self.now.rest.now in
-    take_rest text c.min-past.result ∙ ap (λ k. drop k text) c.min-past.ensures ∙ drop_min (length c.line_at-line.result.now + 1) text ∙
-    ap (λ s. drop (length s + 1) text) c.line_at-line.ensures
+    taken-rest _ _ _ (taken_next c.args.self.now.text.now c.args.self.now.at _ c.line_at-line.ensures _ c.line_meaning-told.ensures c.if-self.false _ c.min-self.ensures)
+
+pub returns-clause-taken : goal.returns-clause-taken
+returns-clause-taken c =
+    taken_next _ _ _ c.line_at-line.ensures _ c.line_meaning-told.ensures c.if-self.false _ c.min-self.ensures
+
+pub returns-clause-within : goal.returns-clause-within
+returns-clause-within c =
+    taken_within c.args.self.now.text.now c.args.self.now.at _
+    (taken_next _ _ _ c.line_at-line.ensures _ c.line_meaning-told.ensures c.if-self.false _ c.min-self.ensures)
