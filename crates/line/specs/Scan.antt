@@ -1,14 +1,18 @@
 -- What the scanning functions answer, in the words of `Bytes`.
-use Rattle.std.specs.Prelude.{Bool, not, List, ℕ, ◌≡◌, ◌<◌}
-use Rattle.line.specs.Bytes.{is_blank, until, from}
+use Rattle.std.specs.Prelude.{Bool, not, List, ℕ}
+use Rattle.line.specs.Bytes.{is_newline, is_hash, is_blank, until, from}
+use Rattle.line.specs.declared.scan.Class.{Class}
+use Rattle.line.specs.declared.scan.Class.TheVariants.{Newline, Hash, Blank, Filled}
 
--- Whether what a closure answers of a byte is what a test says of it.
-abbrev pub Tells : (ℕ → Bool → Type 0) → (ℕ → Bool) → Type 0
-Tells answers p = (b : ℕ) (r : Bool) → b < 256 → answers b r → r ≡ p b
-
--- Whether a byte is not blank.
+-- The test of each class of bytes.
 unfoldable pub is_filled : ℕ → Bool
 is_filled b = not (is_blank b)
+
+unfoldable pub test_of : Class → ℕ → Bool
+test_of Newline = is_newline
+test_of Hash = is_hash
+test_of Blank = is_blank
+test_of Filled = is_filled
 
 -- The first field of some bytes, and what follows it.
 unfoldable pub first_field : List ℕ → List ℕ

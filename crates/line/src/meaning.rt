@@ -6,6 +6,7 @@ ghost use Rattle.rule.specs.Number.{is_one, is_zero, cube_number};
 ghost use Rattle.line.specs.Decimal.{number};
 ghost use Rattle.line.specs.Meaning.{is_sign, read_sign, is_cube, read_cube, columns_line, output_line, kind_line, count_line, signed_line, row_line, pair_line, single_line, meaning};
 
+use crate::scan::Class;
 use crate::{number, scan};
 
 // The types of a text.
@@ -177,7 +178,7 @@ fn single_line(a: &[u8]) -> Line
 pub fn line_meaning(line: &[u8]) -> Line
     ensures { result ≡ meaning line.now }
 {
-    let kept = scan::before_first(line, |b| b == b'#');
+    let kept = scan::before_first(line, Class::Hash);
     let a = scan::first_field(kept);
     if a.is_empty() {
         return Line::Empty;

@@ -1,22 +1,19 @@
--- `line::scan::run_length` meets its contract: each byte ends the run, or belongs to it.
-use Rattle.std.proofs.Common.{rules, sym, ap, true, false, length, get_or, arith}
+-- `line::scan::run_length` meets its contract: each byte ends the run, or belongs to it, so the search finds the run's length.
+use Rattle.std.proofs.Common.{◌≡◌, rules, sym, ap, ◌∙◌, true, false, ◌∷◌, [], length, arith}
+use Rattle.std.proofs.lemmas.Iterator.{YieldsList-from_slice, IsFirst-from_position, index_from_first}
+use Rattle.line.specs.Bytes.{until}
+use Rattle.line.specs.Scan.{test_of}
 use Rattle.line.proofs.Runs.{until-here, until-on, until_none}
 use Rattle.line.proofs.scan.run_length.Goals as goal
 
-pub loop-i-init : goal.loop-i-init
-loop-i-init g c = λ p t. omega arith
-
-pub returns-then-test-clause-run : goal.returns-then-test-clause-run
-returns-then-test-clause-run g c = λ p t. let l = c.loop-i in
-    let e = until-here p c.args.s.now l.i c.loop-i-test.true (sym (t (get_or c.args.s.now l.i 0) true (search rules) c.if-test.ensures)) in
-    omega (arith, ap length e, l.invariant p t)
-
-pub loop-i-preserved : goal.loop-i-preserved
-loop-i-preserved g c = λ p t. let l = c.loop-i in
-    let e = until-on p c.args.s.now l.i c.loop-i-test.true (sym (t (get_or c.args.s.now l.i 0) false (search rules) c.if-test.ensures)) in
-    omega (arith, ap length e, l.invariant p t)
-
-pub returns-clause-run : goal.returns-clause-run
-returns-clause-run g c = λ p t. let l = c.loop-i in
-    let e = until_none p c.args.s.now l.i c.loop-i-test.false in
-    omega (arith, ap length e, l.invariant p t)
+pub returns : goal.returns
+returns c =
+    let p = test_of c.args.what in
+    let found = IsFirst-from_position _ _ _ (λ b. p b ≡ true) (λ b. p b ≡ false) c.position.ensures.ran
+    (YieldsList-from_slice c.args.s.now cc) (λ x q k. search rules) (λ x q k. search rules) in
+    let counted = index_from_first (λ s. length (until p s)) (λ b. p b ≡ true) (λ b. p b ≡ false)
+    (ap length (until_none p [] 0 (omega arith)))
+    (λ b t e. ap length (until-here p (b ∷ t) 0 (omega arith) e))
+    (λ b t e. let u = ap length (until-on p (b ∷ t) 0 (omega arith) e) in omega (arith, u))
+    c.args.s.now _ found in
+    c.unwrap_or.ensures ∙ sym counted
