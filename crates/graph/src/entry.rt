@@ -55,6 +55,7 @@ pub fn in_range(count: usize, x: u16) -> bool
 }
 
 // The answer to what was made, with the records past the count cleared. Where there was no room, the `kept` first ones stay.
+#[tactic(auto, using(crate::proofs::Operating::told_settled), unfolding(crate::specs::Entry::count_after, crate::specs::Entry::answer_to, rule::specs::Refusal::refusal_of))]
 fn settle(table: &mut TableMut<'_>, kept: usize, made: Option<u16>) -> Result<u16, Refusal>
     requires { SettleAsks kept table.old made }
     ensures same { SameSlices table.old table.new }
