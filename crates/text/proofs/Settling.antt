@@ -58,16 +58,26 @@ module _ (n : ℕ) (t : Kind) (rows : List Row) (room : ℕ) where
   none-lacks : reading_need n t rows ≤ room → within n (lower_of n t rows) (upper_of n t rows) ≡ true → room_broken n t rows room ≡ 0
   none-lacks h e = need-fits h ∙ kept_next point_kept [] (sym (within_exactly n t rows) ∙ e) ∙ none-broken
 
+-- What does not fit is refused by 7.
+pub roots_lack : (n : ℕ) (t : Kind) (rows : List Row) (room : ℕ) (v l h : List ℕ) → RootsLack n t rows room v l h
+    → FunctionLacks n t rows room v l h nodes_lack 0
+roots_lack n t rows room v l h q =
+    record { broken = need-lacks n t rows room q.lacks; refused = omega arith; returned = refl; wide = q.wide; sized = q.sized }
+
 -- The rows do not fit.
-pub rows_lack : (n : ℕ) (t : Kind) (rows : List Row) (room : ℕ) (v l h : List ℕ) (c : ℕ) → NamedOf n t rows room v l h c None
+pub rows_short : (n : ℕ) (t : Kind) (rows : List Row) (room : ℕ) (v l h : List ℕ) (c : ℕ) → NamedOf n t rows room v l h c None
     → RootsLack n t rows room v l h
 unfolding NamedOf reading_need reading_names
-rows_lack n t rows room v l h c q =
+rows_short n t rows room v l h c q =
     record {
       lacks = omega (arith, q.1.lacks, more_no_shorter [] (named_after n t [] rows) (nodes n (upper_of n t rows)));
       wide = q.0;
       sized = q.1.sized;
     }
+
+pub rows_lack : (n : ℕ) (t : Kind) (rows : List Row) (room : ℕ) (v l h : List ℕ) (c : ℕ) → NamedOf n t rows room v l h c None
+    → FunctionLacks n t rows room v l h nodes_lack 0
+rows_lack n t rows room v l h c q = roots_lack n t rows room v l h (rows_short n t rows room v l h c q)
 
 -- The rows are named.
 pub rows_named : {n : ℕ} {t : Kind} {rows : List Row} {room : ℕ} {v l h : List ℕ} {c : ℕ} {s : Sets} → NamedOf n t rows room v l h c (Some s)
@@ -84,14 +94,18 @@ module _ {n : ℕ} {t : Kind} {rows : List Row} {room : ℕ} {v l h : List ℕ} 
         sym (add_all_append [] (named_after n t [] rows) (nodes n (upper_of n t rows)))
 
     -- U does not fit.
-    pub upper-lacks : (v₁ l₁ h₁ : List ℕ) (c₁ : ℕ) → MadeOf n c v l h v₁ l₁ h₁ 0 n (upper_of n t rows) c₁ None → RootsLack n t rows room v₁ l₁ h₁
+    pub upper-short : (v₁ l₁ h₁ : List ℕ) (c₁ : ℕ) → MadeOf n c v l h v₁ l₁ h₁ 0 n (upper_of n t rows) c₁ None → RootsLack n t rows room v₁ l₁ h₁
     unfolding MadeOf reading_need
-    upper-lacks v₁ l₁ h₁ c₁ p =
+    upper-short v₁ l₁ h₁ c₁ p =
         record {
           lacks = omega (arith, p.lacks, ap length named_then, q.0);
           wide = p.length-kept ∙ q.0;
           sized = record { count = omega arith; low = p.sized.low; high = p.sized.high; room = p.sized.room };
         }
+
+    pub upper-lacks : (v₁ l₁ h₁ : List ℕ) (c₁ : ℕ) → MadeOf n c v l h v₁ l₁ h₁ 0 n (upper_of n t rows) c₁ None
+        → FunctionLacks n t rows room v₁ l₁ h₁ nodes_lack 0
+    upper-lacks v₁ l₁ h₁ c₁ p = roots_lack n t rows room v₁ l₁ h₁ (upper-short v₁ l₁ h₁ c₁ p)
 
     pub upper-named : (v₁ l₁ h₁ : List ℕ) (c₁ x : ℕ) → MadeOf n c v l h v₁ l₁ h₁ 0 n (upper_of n t rows) c₁ (Some x)
         → RootsNamed n t rows room v₁ l₁ h₁ c₁ a x
@@ -104,12 +118,6 @@ module _ {n : ℕ} {t : Kind} {rows : List Row} {room : ℕ} {v l h : List ℕ} 
           on_or_dc = built-names p;
           adds = p.adds ∙ named_then;
         }
-
--- What does not fit is refused by 7.
-pub roots_lack : (n : ℕ) (t : Kind) (rows : List Row) (room : ℕ) (v l h : List ℕ) → RootsLack n t rows room v l h
-    → FunctionLacks n t rows room v l h nodes_lack 0
-roots_lack n t rows room v l h q =
-    record { broken = need-lacks n t rows room q.lacks; refused = omega arith; returned = refl; wide = q.wide; sized = q.sized }
 
 module _ {n : ℕ} {t : Kind} {rows : List Row} {room : ℕ} {v l h : List ℕ} {c a b : ℕ} (q : RootsNamed n t rows room v l h c a b) where
   pub both_in_use : RootedTwice n c v l h 0 a b
