@@ -23,12 +23,7 @@ pub length-numeral : (n : ℕ) → length (numeral n) ≤ 10
 unfolding numeral
 length-numeral n = Numerals.length-numeral n
 
--- A point's digits: there is one for each column, the first column's first.
-pub length_point : (n p : ℕ) → length (point_text n p) ≡ n
-unfolding point_text digits
-length_point zero p = refl
-length_point (suc n) p = ap suc (length_point n (p / 2))
-
+-- A point's digits: the first column's first, and there is one for each column.
 column-digit : (p : ℕ) → digit (bit (odd p)) ≡ 48 + p % 2
 unfolding digit
 column-digit p = omega (arith, put-odd p)
@@ -39,6 +34,11 @@ next-column zero p h = let x : ⊥ = omega arith in absurd x
 next-column (suc m) p h =
     let k : m ≡ suc m - 1 = omega arith in
     ap₂ (λ b l. b ∷ point_text l (p / 2)) (column-digit p) k
+
+pub length_point : (n p : ℕ) → length (point_text n p) ≡ n
+unfolding point_text digits
+length_point zero p = refl
+length_point (suc n) p = ap suc (length_point n (p / 2))
 
 -- At first all columns are left, then one less, and at last none.
 pub all_columns : (room : List ℕ) (i n p : ℕ) → i + n ≤ length room → Left room i (point_text n p) room i (point_text (n - 0) p)
