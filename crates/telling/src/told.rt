@@ -11,7 +11,6 @@ use text::function::Function;
 const DONE: u16 = 0;
 
 // The status of an operation; its root and the count of records in use after it go into the array.
-#[tactic(auto, unfolding(crate::specs::Told::root_and_count, graph::specs::Entry::numbers_of))]
 pub fn tell(answer: Result<u16, Refusal>, count: usize, out: &mut [u64; 2]) -> u16
     ensures { Told answer count result out.new }
 {
@@ -28,7 +27,6 @@ pub fn tell(answer: Result<u16, Refusal>, count: usize, out: &mut [u64; 2]) -> u
 }
 
 // The status of a value; the value goes into the array as 0 or 1.
-#[tactic(auto, unfolding(crate::specs::Told::value_alone, graph::specs::Entry::value_of))]
 pub fn tell_value(answer: Result<bool, Refusal>, out: &mut [u64; 1]) -> u16
     ensures { ToldValue answer result out.new }
 {
@@ -46,7 +44,6 @@ pub fn tell_value(answer: Result<bool, Refusal>, out: &mut [u64; 1]) -> u16
 
 // The status of a generation, a writing or a candidate's reading; what a refusal returns and the length that is answered go into
 // the array.
-#[tactic(auto, unfolding(crate::specs::Told::returned_and_length, crate::specs::Told::returned_and_written, crate::specs::Told::returned_and_rows, list::specs::Entry::numbers_of, text::specs::Writing::numbers_of, text::specs::Candidate::read_numbers))]
 pub fn tell_length(answer: Result<usize, Refused>, out: &mut [u64; 2]) -> u16
     ensures list { ToldList answer result out.new }
     ensures written { ToldWritten answer result out.new }
@@ -65,7 +62,6 @@ pub fn tell_length(answer: Result<usize, Refused>, out: &mut [u64; 2]) -> u16
 }
 
 // The kind of a verdict and its values.
-#[tactic(auto, unfolding(crate::specs::Told::kind_and_values, crate::specs::Told::verdict_numbers_of))]
 fn kind_and_values(verdict: Verdict) -> [u64; 3]
     ensures { result ≡ kind_and_values (Ok verdict) }
 {
@@ -97,7 +93,6 @@ pub fn tell_verdict(answer: Result<Verdict, Refused>, out: &mut [u64; 3]) -> u16
 
 // The status of a function text's reading; what a refusal returns, the columns, the count of records, L and U go into the
 // array.
-#[tactic(auto, unfolding(crate::specs::Told::returned_and_function, text::specs::Function::function_numbers))]
 pub fn tell_function(answer: Result<Function, Refused>, out: &mut [u64; 5]) -> u16
     ensures { ToldFunction answer result out.new }
 {
