@@ -16,5 +16,5 @@ pub extern "C" fn dowrhesk_read_candidate(
     ensures { ReadingCandidate columns text.now room.old room.new result out.new }
 {
     let answer = candidate::read_candidate(columns, text, room);
-    told::tell_length(answer, out)
+    told::tell_candidate(answer, out)
 }

@@ -29,5 +29,5 @@ pub extern "C" fn dowrhesk_generate(
         high,
     };
     let answer = entry::generate(&mut table, lower, upper, room);
-    told::tell_length(answer, out)
+    told::tell_list(answer, out)
 }

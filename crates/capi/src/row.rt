@@ -134,7 +134,7 @@ pub extern "C" fn dowrhesk_row_generate(
         nodes,
     };
     let answer = generator::generate(&mut row, lower, upper, room);
-    told::tell_length(answer, out)
+    told::tell_list(answer, out)
 }
 
 // The verdict on any list for a lower and an upper root.

@@ -15,5 +15,5 @@ pub extern "C" fn dowrhesk_write_list(
     ensures { WritingList columns list.now room.old room.new result out.new }
 {
     let answer = writing::write_list(columns, list, room);
-    told::tell_length(answer, out)
+    told::tell_written(answer, out)
 }

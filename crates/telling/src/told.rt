@@ -61,6 +61,27 @@ pub fn tell_length(answer: Result<usize, Refused>, out: &mut [u64; 2]) -> u16
     }
 }
 
+// The status of a generation; what a refusal returns and the length of the list go into the array.
+pub fn tell_list(answer: Result<usize, Refused>, out: &mut [u64; 2]) -> u16
+    ensures { ToldList answer result out.new }
+{
+    tell_length(answer, out)
+}
+
+// The status of a writing; what a refusal returns and the bytes written go into the array.
+pub fn tell_written(written: Result<usize, Refused>, out: &mut [u64; 2]) -> u16
+    ensures { ToldWritten written result out.new }
+{
+    tell_length(written, out)
+}
+
+// The status of a candidate's reading; what a refusal returns and the length of the list go into the array.
+pub fn tell_candidate(rows: Result<usize, Refused>, out: &mut [u64; 2]) -> u16
+    ensures { ToldCandidate rows result out.new }
+{
+    tell_length(rows, out)
+}
+
 // The kind of a verdict and its values.
 fn kind_and_values(verdict: Verdict) -> [u64; 3]
     ensures { result ≡ kind_and_values (Ok verdict) }
