@@ -1,18 +1,23 @@
--- The building operations on a row: what is promised of the three lists decides the row.
-use mathlib.Core.Path.{◌≡◌, refl, sym, subst, ◌∙◌}
+-- The building operations on a row: what is promised of the three lists decides the row, and is brought from three arrays to the
+-- row that they were taken from.
+use mathlib.Core.Path.{◌≡◌, refl, sym, subst, subst⁻¹, ◌∙◌}
 use mathlib.Core.Bool.{Bool, true, false, cond}
 use mathlib.Core.List.{List}
-use Prim.Native.Nat.{ℕ, suc, ◌<◌}
-use lib.Dec.{eqb}
-use lib.ListN.{length}
+use Prim.Native.Nat.{ℕ, suc, ◌≤◌, ◌<◌}
+use native.Mathlib.Omega.{arith}
+use lib.Dec.{eqb, leb}
+use lib.ListN.{length, take}
+use borrow.Author.Tests.{leb-true, leb-false}
 use Rattle.std.specs.Prelude.{Result, Err}
 use Rattle.rule.specs.Refusal.{Condition, first_broken, nodes_lack, number_of, refusal_of}
 use Rattle.rule.specs.declared.refusal.Refusal.{Refusal}
 use Rattle.graph.specs.Entry.{Operated, Refusing, build_conditions, left_by, cleared, numbers_of}
-use Rattle.nodes.specs.Row.{levels, lows, highs, cleared_row, over_refusal}
-use Rattle.nodes.specs.Operation.{ranged_for, result_for, conditions, left_row, Operates}
+use Rattle.nodes.specs.Row.{levels, lows, highs, cleared_row, over_refusal, ApartOf, TogetherIn}
+use Rattle.nodes.specs.Operation.{ranged_for, result_for, conditions, left_row, Operates, OperatesOn}
 use Rattle.nodes.specs.declared.row.Node.{Node}
+use Rattle.nodes.specs.declared.apart.Apart.{Apart}
 use Rattle.nodes.specs.declared.operation.Operation.{Operation}
+use Rattle.nodes.proofs.Parts.{AreWhole, CameBack, Starts, Numbers, starts_along, apart-whole, back-whole, back-starts, apart_front, together_front, together_over, together-same}
 use Rattle.nodes.proofs.Refusals.{over-refused, over-case}
 use Rattle.nodes.proofs.Rows.{same_row, levels-cleared, lows-cleared, highs-cleared}
 
@@ -72,3 +77,38 @@ module _ (op : Operation) (n c : ℕ) (xs : List Node) where
             };
         done = λ f. cc;
       }
+
+  -- The row is taken apart, the operation runs on the three arrays, and they are stored.
+  pub loaded_saved : (c' : ℕ) (ys : List Node) (t t' : Apart) (a : Result ℕ Refusal) → ApartOf xs t → AreWhole t' → OperatesOn op n c (length xs) t c' t' a → TogetherIn t' xs ys → Operates op n c xs c' ys a
+  loaded_saved c' ys t t' a p w on s = go (leb (length xs) 4096) refl
+    where
+      go : (b : Bool) → leb (length xs) 4096 ≡ b → Operates op n c xs c' ys a
+      go true e =
+          let m = leb-true (length xs) 4096 e in
+          let before = apart_front xs t p m in
+          let after = together_front xs ys t' w s m in
+          ran before.level before.low before.high after.level after.low after.high (on.within m)
+      go false e =
+          let m = leb-false (length xs) 4096 e in
+          let b = on.beyond m in
+          let same : ys ≡ xs = together-same xs ys t p (subst (λ (u : Apart). TogetherIn u xs ys) b.0 s) in
+          subst⁻¹ (λ (us : List Node). Operates op n c xs c' us a) same
+          (subst⁻¹ (λ (d : ℕ). Operates op n c xs d xs a) b.1 (subst⁻¹ (λ (r : Result ℕ Refusal). Operates op n c xs c xs r) b.2 (over-operates m)))
+
+-- The operation ran on the first parts of three arrays, which have come back.
+lent : (op : Operation) (n c : ℕ) (size : ℕ) (t t' : Apart) {v l h : List ℕ} {c' : ℕ} {a : Result ℕ Refusal} → size ≤ 4096 → Starts size t' v l h
+    → Operated n c (take size t.level) (take size t.low) (take size t.high) (ranged_for op n c) (result_for op n (take size t.level) (take size t.low) (take size t.high)) c' v l h a → OperatesOn op n c size t c' t' a
+lent op n c size t t' {c' = c'} {a} m s o = record {
+  within = λ _.
+      subst⁻¹ (λ (u : Numbers). Operated n c (take size t.level) (take size t.low) (take size t.high) (ranged_for op n c) (result_for op n (take size t.level) (take size t.low) (take size t.high)) c' u.0 u.1 u.2 a) (starts_along s) o;
+  beyond = λ k. let z : ⊥ = omega arith in absurd z;
+}
+
+-- A row of at most 4,096 records: its numbers are lent, come back, and are stored in one of its length.
+pub ran_back : (op : Operation) (n c : ℕ) (xs xs' ys : List Node) (t t' : Apart) {v l h : List ℕ} {c' : ℕ} {a : Result ℕ Refusal} → length xs ≤ 4096 → ApartOf xs t → CameBack (length xs) t v l h t'
+    → Operated n c (take (length xs) t.level) (take (length xs) t.low) (take (length xs) t.high) (ranged_for op n c) (result_for op n (take (length xs) t.level) (take (length xs) t.low) (take (length xs) t.high)) c' v l h a
+    → length xs' ≡ length xs → TogetherIn t' xs' ys → Operates op n c xs c' ys a
+ran_back op n c xs xs' ys t t' {c' = c'} {a} m p b o e s =
+    let w = apart-whole xs t p in
+    let w' = back-whole m w b in
+    loaded_saved op n c xs c' ys t t' a p w' (lent op n c (length xs) t t' m (back-starts m w b) o) (together_over xs xs' ys t' w' e m s)

@@ -1,20 +1,25 @@
--- A function text read into a row: what is promised of the three lists decides the row.
-use mathlib.Core.Path.{◌≡◌, refl, sym, subst, ◌∙◌}
+-- A function text read into a row: what is promised of the three lists decides the row, and is brought from three arrays to the
+-- row that they were taken from.
+use mathlib.Core.Path.{◌≡◌, refl, sym, subst, subst⁻¹, ◌∙◌}
 use mathlib.Core.Bool.{Bool, true, false, cond, ◌||◌, ◌&&◌, true≢false}
 use mathlib.Core.List.{List}
-use Prim.Native.Nat.{ℕ, suc, ◌<◌}
+use Prim.Native.Nat.{ℕ, suc, ◌≤◌, ◌<◌}
+use native.Mathlib.Omega.{arith}
 use lib.Dec.{eqb, leb}
-use lib.ListN.{length}
+use lib.ListN.{length, take}
+use borrow.Author.Tests.{leb-true, leb-false}
 use Rattle.std.specs.Prelude.{Result, Err}
 use Rattle.rule.specs.Refusal.{first_broken, text_over, table_over, number_of, refusal_of}
 use Rattle.rule.specs.declared.refusal.Refused.{Refused}
 use Rattle.text.specs.Function.{function_conditions, function_refusal, function_numbers, function_returns, table_left, NotRead, ReadsFunction}
 use Rattle.text.specs.declared.function.Function.{Function}
-use Rattle.nodes.specs.Row.{levels, lows, highs, cleared_row}
-use Rattle.nodes.specs.Reading.{left_unread, over_text, RowReads}
+use Rattle.nodes.specs.Row.{levels, lows, highs, cleared_row, ApartOf, TogetherIn}
+use Rattle.nodes.specs.Reading.{left_unread, over_text, RowReads, ReadsOn}
 use Rattle.nodes.specs.declared.row.Node.{Node}
+use Rattle.nodes.specs.declared.apart.Apart.{Apart}
 use Rattle.nodes.proofs.Operations.{Lists, along}
 use Rattle.nodes.proofs.Generating.{left_field}
+use Rattle.nodes.proofs.Parts.{AreWhole, CameBack, Starts, Numbers, starts_along, apart-whole, back-whole, back-starts, apart_front, together_front, together-same}
 use Rattle.nodes.proofs.Refusals.{too_long}
 use Rattle.nodes.proofs.Rows.{same_row, levels-cleared, lows-cleared, highs-cleared}
 
@@ -79,3 +84,34 @@ module _ (text : List ℕ) (xs : List Node) where
             };
         done = λ f. cc;
       }
+
+  -- The row is taken apart, the text is read into the three arrays, and they are stored.
+  pub read_saved : (ys : List Node) (t t' : Apart) (a : Result Function Refused) → ApartOf xs t → AreWhole t' → ReadsOn text (length xs) t t' a → TogetherIn t' xs ys → RowReads text xs ys a
+  read_saved ys t t' a p w on s = go (leb (length xs) 4096) refl
+    where
+      go : (b : Bool) → leb (length xs) 4096 ≡ b → RowReads text xs ys a
+      go true e =
+          let m = leb-true (length xs) 4096 e in
+          let before = apart_front xs t p m in
+          let after = together_front xs ys t' w s m in
+          read_ran before.level before.low before.high after.level after.low after.high (on.within m)
+      go false e =
+          let m = leb-false (length xs) 4096 e in
+          let b = on.beyond m in
+          let same : ys ≡ xs = together-same xs ys t p (subst (λ (u : Apart). TogetherIn u xs ys) b.0 s) in
+          subst⁻¹ (λ (us : List Node). RowReads text xs us a) same (subst⁻¹ (λ (r : Result Function Refused). RowReads text xs xs r) b.1 (over-reads m))
+
+-- The text was read into the first parts of three arrays, which have come back.
+lent : (text : List ℕ) (size : ℕ) (t t' : Apart) {v l h : List ℕ} {a : Result Function Refused} → size ≤ 4096 → Starts size t' v l h
+    → ReadsFunction text (take size t.level) (take size t.low) (take size t.high) v l h a → ReadsOn text size t t' a
+lent text size t t' {a = a} m s o = record {
+  within = λ _. subst⁻¹ (λ (u : Numbers). ReadsFunction text (take size t.level) (take size t.low) (take size t.high) u.0 u.1 u.2 a) (starts_along s) o;
+  beyond = λ k. let z : ⊥ = omega arith in absurd z;
+}
+
+-- A row of at most 4,096 records: its numbers are lent, come back, and are stored.
+pub read_back : (text : List ℕ) (xs ys : List Node) (t t' : Apart) {v l h : List ℕ} {a : Result Function Refused} → length xs ≤ 4096 → ApartOf xs t → CameBack (length xs) t v l h t'
+    → ReadsFunction text (take (length xs) t.level) (take (length xs) t.low) (take (length xs) t.high) v l h a → TogetherIn t' xs ys → RowReads text xs ys a
+read_back text xs ys t t' {a = a} m p b o s =
+    let w = apart-whole xs t p in
+    read_saved text xs ys t t' a p (back-whole m w b) (lent text (length xs) t t' m (back-starts m w b) o) s

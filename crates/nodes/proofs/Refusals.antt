@@ -2,6 +2,7 @@
 use mathlib.Core.Path.{◌≡◌, refl, ap, ◌∙◌}
 use mathlib.Core.Bool.{Bool, true, false, cond, ◌&&◌, true≢false}
 use mathlib.Core.List.{List, ◌++◌}
+use mathlib.Core.Logic.{◌⊎◌, inl, inr}
 use Prim.Native.Nat.{ℕ, ◌<◌}
 use lib.Dec.{eqb, leb}
 use lib.ListN.{length, length-map}
@@ -21,6 +22,9 @@ over-case n P p q = go (leb n 16)
     go : (b : Bool) → P (cond b 2 1)
     go true = q
     go false = p
+
+pub over-number : (n : ℕ) → (over_refusal n ≡ 1) ⊎ (over_refusal n ≡ 2)
+over-number n = over-case n (λ k. (k ≡ 1) ⊎ (k ≡ 2)) (inl refl) (inr refl)
 
 third_fails : (a b t d : Bool) → t ≡ false → (a && b && t && d) ≡ false
 third_fails a b true d e = absurd (true≢false e)

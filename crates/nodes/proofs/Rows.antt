@@ -1,4 +1,4 @@
--- A row of records and its three lists: they determine it, and go along with clearing.
+-- A row of records and its three lists: they determine it, and go along with parts of it and with clearing.
 use mathlib.Core.Path.{◌≡◌, refl, sym, ap, ◌∙◌}
 use mathlib.Core.List.{List, [], ◌∷◌, ◌++◌, map, map-append, head-eq_of_cons-eq, tail-eq_of_cons-eq, cons-ne-nil}
 use Prim.Native.Nat.{ℕ, zero, suc, ◌-◌}
@@ -20,6 +20,18 @@ same (x ∷ xs) (y ∷ ys) p q r =
 pub same_row : (xs ys : List Node) → levels xs ≡ levels ys → lows xs ≡ lows ys → highs xs ≡ highs ys → xs ≡ ys
 unfolding levels lows highs
 same_row = same
+
+pub levels_take : (k : ℕ) (xs : List Node) → levels (take k xs) ≡ take k (levels xs)
+unfolding levels
+levels_take k xs = sym (take-map (λ x. x.level) k xs)
+
+pub lows_take : (k : ℕ) (xs : List Node) → lows (take k xs) ≡ take k (lows xs)
+unfolding lows
+lows_take k xs = sym (take-map (λ x. x.low) k xs)
+
+pub highs_take : (k : ℕ) (xs : List Node) → highs (take k xs) ≡ take k (highs xs)
+unfolding highs
+highs_take k xs = sym (take-map (λ x. x.high) k xs)
 
 map_replicate : (f : Node → ℕ) (k : ℕ) (x : Node) → map f (replicate k x) ≡ replicate k (f x)
 map_replicate f zero x = refl

@@ -1,11 +1,12 @@
 -- The building operations on a row of records: the promises of the three slices, said of the row.
-use Rattle.std.specs.Prelude.{◌≡◌, Bool, cond, ◌&&◌, List, ℕ, suc, eqb, ltb, Result}
+use Rattle.std.specs.Prelude.{◌≡◌, Bool, cond, ◌&&◌, List, ℕ, suc, ◌≤◌, ◌<◌, eqb, ltb, take, Result, Err}
 use Rattle.rule.specs.Func.{Fn}
-use Rattle.rule.specs.Refusal.{Condition, first_broken, nodes_lack}
+use Rattle.rule.specs.Refusal.{Condition, first_broken, nodes_lack, refusal_of}
 use Rattle.graph.specs.Entry.{Operated, build_conditions, in_range, result_of, variable_fn}
 use Rattle.rule.specs.declared.refusal.Refusal.{Refusal}
-use Rattle.nodes.specs.Row.{levels, lows, highs, cleared_row}
+use Rattle.nodes.specs.Row.{levels, lows, highs, cleared_row, over_refusal}
 use Rattle.nodes.specs.declared.row.Node.{Node}
+use Rattle.nodes.specs.declared.apart.Apart.{Apart}
 use Rattle.nodes.specs.declared.operation.Operation.{Operation}
 use Rattle.nodes.specs.declared.operation.Operation.TheVariants.{Variable, Of}
 use Rattle.nodes.specs.declared.row.RowMut.{RowMut}
@@ -37,3 +38,8 @@ module _ (op : Operation) (n : ℕ) (c : ℕ) (xs : List Node) where
 -- The same of a lent row.
 abbrev pub OperatesIn : Operation → RowMut → RowMut → Result ℕ Refusal → Type 0
 OperatesIn op r r' a = Operates op r.columns r.count r.nodes.now r'.count r'.nodes.now a
+
+-- The same of three arrays that hold the records of a row of some length.
+pub record OperatesOn (op : Operation) (n : ℕ) (c : ℕ) (size : ℕ) (t : Apart) (c' : ℕ) (t' : Apart) (a : Result ℕ Refusal) : Type 0 where
+  pub within : size ≤ 4096 → Operated n c (take size t.level) (take size t.low) (take size t.high) (ranged_for op n c) (result_for op n (take size t.level) (take size t.low) (take size t.high)) c' (take size t'.level) (take size t'.low) (take size t'.high) a
+  pub beyond : 4096 < size → (t' ≡ t) × (c' ≡ c) × (a ≡ Err (refusal_of (over_refusal n)))

@@ -1,5 +1,5 @@
--- A row of node records, and its three lists.
-use Rattle.std.specs.Prelude.{◌≡◌, false, List, [], ◌∷◌, map, ◌++◌, ℕ, ◌-◌, leb, length, take, replicate}
+-- A row of node records: its three lists, and one row copied over another.
+use Rattle.std.specs.Prelude.{◌≡◌, false, List, [], ◌∷◌, map, ◌++◌, ℕ, ◌-◌, leb, length, take, drop, replicate}
 use Rattle.rule.specs.Refusal.{first_broken, columns_over, table_over}
 use Rattle.graph.specs.declared.table.TableRef.{TableRef}
 use Rattle.nodes.specs.declared.row.Node.{Node}
@@ -21,11 +21,15 @@ highs xs = map (λ x. x.high) xs
 unfoldable pub zero_node : Node
 zero_node = record { level = 0; low = 0; high = 0 }
 
--- The first numbers of three arrays are those of a row's records.
+-- The second row, its first records those of the first row, as many as both have.
+unfoldable pub over : {X : Type 0} → List X → List X → List X
+over xs ys = take (length ys) xs ++ drop (length xs) ys
+
+-- Three arrays hold the numbers of a row's records, as many as there is room for, and zeros past them.
 pub record ApartOf (xs : List Node) (a : Apart) : Type 0 where
-  pub level : take (length xs) a.level ≡ levels xs
-  pub low : take (length xs) a.low ≡ lows xs
-  pub high : take (length xs) a.high ≡ highs xs
+  pub level : a.level ≡ over (levels xs) (replicate 4096 0)
+  pub low : a.low ≡ over (lows xs) (replicate 4096 0)
+  pub high : a.high ≡ over (highs xs) (replicate 4096 0)
 
 -- A table to be read holds the first numbers of three arrays, as many as the row has records.
 pub record SharesRow (a : Apart) (r : RowRef) (t : TableRef) : Type 0 where
@@ -35,11 +39,11 @@ pub record SharesRow (a : Apart) (r : RowRef) (t : TableRef) : Type 0 where
   pub low : t.low.now ≡ take (length r.nodes.now) a.low
   pub high : t.high.now ≡ take (length r.nodes.now) a.high
 
--- A row's records take those numbers.
+-- A row's first records take the numbers of three arrays, as many as both have; the others stay.
 pub record TogetherIn (a : Apart) (xs : List Node) (xs' : List Node) : Type 0 where
-  pub level : levels xs' ≡ take (length xs) a.level
-  pub low : lows xs' ≡ take (length xs) a.low
-  pub high : highs xs' ≡ take (length xs) a.high
+  pub level : levels xs' ≡ over a.level (levels xs)
+  pub low : lows xs' ≡ over a.low (lows xs)
+  pub high : highs xs' ≡ over a.high (highs xs)
 
 -- Afterwards a row has the same columns and the same records, as many.
 pub record SameRow (r : RowMut) (r' : RowMut) : Type 0 where

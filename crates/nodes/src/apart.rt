@@ -1,5 +1,4 @@
 // The records of a row as three arrays of numbers, lent as a table to be read, and together again.
-ghost use Rattle.std.specs.Prelude.{◌≡◌, ◌≤◌, length};
 ghost use Rattle.nodes.specs.Row.{ApartOf, TogetherIn, SharesRow};
 
 use crate::row::{Node, RowRef};
@@ -15,9 +14,8 @@ pub struct Apart {
 }
 
 impl Apart {
-    // The records of a row.
+    // The first records of a row, then zeros.
     pub fn of(nodes: &[Node]) -> Apart
-        requires { length nodes.now ≤ 4096 }
         ensures { ApartOf nodes.now result }
     {
         let mut apart = Apart {
@@ -25,7 +23,9 @@ impl Apart {
             low: [0; 4096],
             high: [0; 4096],
         };
-        for (i, node) in nodes.iter().enumerate() {
+        let size = nodes.len().min(4096);
+        let first = &nodes[..size];
+        for (i, node) in first.iter().enumerate() {
             apart.level[i] = node.level;
             apart.low[i] = node.low;
             apart.high[i] = node.high;
@@ -35,10 +35,9 @@ impl Apart {
 
     // The first numbers of the arrays as a table to be read, as many as the row has records.
     pub fn table(&self, row: RowRef<'_>) -> TableRef<'_>
-        requires { length row.nodes.now ≤ 4096 }
         ensures { SharesRow self.now row.entry result }
     {
-        let size = row.nodes.len();
+        let size = row.nodes.len().min(4096);
         TableRef {
             columns: row.columns,
             count: row.count,
@@ -48,12 +47,13 @@ impl Apart {
         }
     }
 
-    // The records go back into the row.
+    // The first records of a row become those of the arrays; the others stay.
     pub fn store(&self, nodes: &mut [Node])
-        requires { length nodes.old ≤ 4096 }
         ensures { TogetherIn self.now nodes.old nodes.new }
     {
-        for (i, node) in nodes.iter_mut().enumerate() {
+        let size = nodes.len().min(4096);
+        let first = &mut nodes[..size];
+        for (i, node) in first.iter_mut().enumerate() {
             *node = Node {
                 level: self.level[i],
                 low: self.low[i],

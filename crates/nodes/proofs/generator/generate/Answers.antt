@@ -1,9 +1,7 @@
--- `nodes::generator::generate` meets its contract: a row of more than 4,096 records is refused, and for any other the generator
--- runs on the three lists of the row, which are stored.
-use Rattle.std.proofs.Common.{arith}
-use Rattle.nodes.specs.Row.{levels, lows, highs}
-use Rattle.nodes.proofs.Fields.{back}
-use Rattle.nodes.proofs.Generating.{list_ran, over-generates}
+-- `nodes::generator::generate` meets its contract: a row of more than 4,096 records is refused, and any other is taken apart, the
+-- generator runs on the first numbers of the three arrays, and they are stored.
+use Rattle.std.proofs.Common.{refl, arith}
+use Rattle.nodes.proofs.Generating.{list_back, over-generates}
 use Rattle.nodes.proofs.Refusals.{refused-by}
 use Rattle.nodes.proofs.generator.generate.Goals as goal
 
@@ -11,10 +9,14 @@ pub returns-then-size-gt4096-clause-generates : goal.returns-then-size-gt4096-cl
 returns-then-size-gt4096-clause-generates c = rw (refused-by c.into.ensures c.over_refusal.ensures) (over-generates _ _ _ _ _ _ c.if-size-gt4096.true)
 
 pub returns-clause-generates : goal.returns-clause-generates
-unfolding levels lows highs
 returns-clause-generates c =
-    list_ran _ _ _ _ _ _ c.of.ensures.level c.of.ensures.low c.of.ensures.high
-    (back (λ x. x.level) _ _ _ _ _ c.of.ensures.level c.on_slices-answer.auto.level (omega arith) c.store.ensures.level)
-    (back (λ x. x.low) _ _ _ _ _ c.of.ensures.low c.on_slices-answer.auto.low (omega arith) c.store.ensures.low)
-    (back (λ x. x.high) _ _ _ _ _ c.of.ensures.high c.on_slices-answer.auto.high (omega arith) c.store.ensures.high)
-    c.on_slices-answer.ensures
+    list_back _ _ _ _ _ _ _ _ _ _ c.if-size-gt4096.false c.of.ensures
+    record {
+      levels-long = c.on_slices-answer.auto.level;
+      lows-long = c.on_slices-answer.auto.low;
+      highs-long = c.on_slices-answer.auto.high;
+      level = refl;
+      low = refl;
+      high = refl;
+    }
+    c.on_slices-answer.ensures (omega arith) c.store.ensures

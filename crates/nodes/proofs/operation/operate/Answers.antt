@@ -1,19 +1,21 @@
--- `nodes::operation::operate` meets its contract: a row of more than 4,096 records is refused, and any other operation runs on
--- the three lists of the row, which are stored.
-use Rattle.std.proofs.Common.{arith}
-use Rattle.nodes.specs.Row.{levels, lows, highs}
-use Rattle.nodes.proofs.Fields.{back}
-use Rattle.nodes.proofs.Operations.{ran, over-operates}
+-- `nodes::operation::operate` meets its contract: a row of more than 4,096 records is refused, and any other is taken apart, the
+-- operation runs on the first numbers of the three arrays, and they are stored.
+use Rattle.std.proofs.Common.{refl, arith}
+use Rattle.nodes.proofs.Operations.{ran_back, over-operates}
 use Rattle.nodes.proofs.operation.operate.Goals as goal
 
 pub returns-then-size-gt4096-clause-operates : goal.returns-then-size-gt4096-clause-operates
 returns-then-size-gt4096-clause-operates c = rw c.over_refusal.ensures (over-operates _ _ _ _ c.if-size-gt4096.true)
 
 pub returns-clause-operates : goal.returns-clause-operates
-unfolding levels lows highs
 returns-clause-operates c =
-    ran _ _ _ _ c.of.ensures.level c.of.ensures.low c.of.ensures.high
-    (back (λ x. x.level) _ _ _ _ _ c.of.ensures.level c.on_slices-answer.auto.level (omega arith) c.store.ensures.level)
-    (back (λ x. x.low) _ _ _ _ _ c.of.ensures.low c.on_slices-answer.auto.low (omega arith) c.store.ensures.low)
-    (back (λ x. x.high) _ _ _ _ _ c.of.ensures.high c.on_slices-answer.auto.high (omega arith) c.store.ensures.high)
-    c.on_slices-answer.ensures
+    ran_back _ _ _ _ _ _ _ _ c.if-size-gt4096.false c.of.ensures
+    record {
+      levels-long = c.on_slices-answer.auto.level;
+      lows-long = c.on_slices-answer.auto.low;
+      highs-long = c.on_slices-answer.auto.high;
+      level = refl;
+      low = refl;
+      high = refl;
+    }
+    c.on_slices-answer.ensures (omega arith) c.store.ensures

@@ -1,11 +1,12 @@
--- The loop of `nodes::apart::Apart::of`: the numbers so far of each field are taken.
+-- The loop of `nodes::apart::Apart::of`: the first numbers of each field are copied over zeros.
+use Rattle.std.proofs.Common.{◌≡◌, replicate}
 use Rattle.nodes.specs.Row.{levels, lows, highs}
-use Rattle.nodes.proofs.Fields.{SoFar}
+use Rattle.nodes.proofs.Copying.{copied}
 use Rattle.nodes.proofs.apart.Apart.of.Given as goal
 
 abbrev pub invariant-loop-i : goal.invariant-loop-i
 invariant-loop-i l = record {
-  level : SoFar 4096 (levels l.nodes) l.apart.level l.i;
-  low : SoFar 4096 (lows l.nodes) l.apart.low l.i;
-  high : SoFar 4096 (highs l.nodes) l.apart.high l.i;
+  level : l.apart.level ≡ copied 0 (levels l.fn.nodes) (replicate 4096 0) l.i;
+  low : l.apart.low ≡ copied 0 (lows l.fn.nodes) (replicate 4096 0) l.i;
+  high : l.apart.high ≡ copied 0 (highs l.fn.nodes) (replicate 4096 0) l.i;
 }

@@ -1,12 +1,12 @@
--- The loop of `nodes::apart::Apart::store`: the numbers so far of each field are stored.
-use Rattle.std.proofs.Common.{length}
+-- The loop of `nodes::apart::Apart::store`: the first numbers of each array are copied over the first part of the row.
+use Rattle.std.proofs.Common.{◌≡◌, take}
 use Rattle.nodes.specs.Row.{levels, lows, highs}
-use Rattle.nodes.proofs.Fields.{SoFar}
+use Rattle.nodes.proofs.Copying.{copied}
 use Rattle.nodes.proofs.apart.Apart.store.Given as goal
 
 abbrev pub invariant-loop-i : goal.invariant-loop-i
 invariant-loop-i l = record {
-  level : SoFar (length l.fn.nodes) l.self.level (levels l.nodes) l.i;
-  low : SoFar (length l.fn.nodes) l.self.low (lows l.nodes) l.i;
-  high : SoFar (length l.fn.nodes) l.self.high (highs l.nodes) l.i;
+  level : levels l.first ≡ copied 0 l.self.level (levels (take l.size l.fn.nodes)) l.i;
+  low : lows l.first ≡ copied 0 l.self.low (lows (take l.size l.fn.nodes)) l.i;
+  high : highs l.first ≡ copied 0 l.self.high (highs (take l.size l.fn.nodes)) l.i;
 }
