@@ -6,10 +6,10 @@ ghost use Rattle.listmemo.specs.Past.{key_of, no_entry, Stands, Keeps, FoundOf};
 // A list that stands in the room: its cover, the place of its first cube, its length and the literals of its path.
 #[derive(Clone, Copy)]
 pub struct Found {
-    pub cover: u16,
     pub from: usize,
     pub size: usize,
     pub literals: u32,
+    pub cover: u16,
 }
 
 // An entry: the key of two roots and a column, and what was found for them. Key 0 is no entry.
@@ -47,10 +47,10 @@ impl Past {
         ensures { result.entries ≡ replicate 512 no_entry }
     {
         let found = Found {
-            cover: 0,
             from: 0,
             size: 0,
             literals: 0,
+            cover: 0,
         };
         Past {
             entries: [Entry { key: 0, found }; 512],
