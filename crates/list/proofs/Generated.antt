@@ -220,9 +220,9 @@ module _ (g : Generator) (p : Path) {a : ℕ} {b : ℕ} (q : ListableIn g p a b)
         pub list_place : g.at ≤ g₁.at
         list_place = place-on q listed
 
-        -- The list may be kept: its column fits a key.
-        pub keep_asks : p.k < 64
-        keep_asks = (may_be_kept q listed).0
+        -- The list may be kept: its column fits a key, and its place and its length fit 32 bits.
+        pub keep_asks : (p.k < 64) × (g.at < 4294967296) × (g₁.at - g.at < 4294967296)
+        keep_asks = may_be_kept q listed
 
     -- The memos after the three lists, and after their cover.
     module _ {g₁ : Generator} (s : Covers) (h : ListsGive g p a b g₁ (Some s)) where

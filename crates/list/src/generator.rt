@@ -60,7 +60,7 @@ impl Generator<'_, '_, '_, '_> {
         ensures copied { CopiedIn self.old list chosen self.new }
     {
         copy::copy(self.room, self.at, list, chosen);
-        self.at += list.size;
+        self.at += list.size as usize;
     }
 
     // Lists A, B and C of a step, one after the other, and their covers; none where there is no room for nodes.
@@ -106,10 +106,10 @@ impl Generator<'_, '_, '_, '_> {
         let covers = self.expand(path, l, u)?;
         let cover = step::join(self.operations, path.k, covers)?;
         let found = Found {
-            cover,
-            from,
-            size: self.at - from,
+            from: from as u32,
+            size: (self.at - from) as u32,
             literals: path.chosen,
+            cover,
         };
         self.past.keep(l, u, path.k, found);
         Some(cover)

@@ -13,8 +13,8 @@ pub fn copy(room: &mut [u32], at: usize, list: Found, chosen: u32)
     requires { CopyableOf room.old list at chosen }
     ensures { (w : ℕ) (cs : List Cube) → length cs ≡ list.size → sets room.old list.from (numbers_under list.literals w cs) ≡ room.old → room.new ≡ sets room.old at (numbers_under chosen w cs) }
 {
-    let fits = list.size.min(room.len().saturating_sub(at));
+    let fits = (list.size as usize).min(room.len().saturating_sub(at));
     for i in 0..fits {
-        room[at + i] = room[list.from + i] - list.literals + chosen;
+        room[at + i] = room[list.from as usize + i] - list.literals + chosen;
     }
 }

@@ -3,11 +3,13 @@
 ghost use Rattle.std.specs.Prelude.{◌≡◌, ℕ, ◌<◌, List, replicate};
 ghost use Rattle.listmemo.specs.Past.{key_of, no_entry, Stands, Keeps, FoundOf};
 
-// A list that stands in the room: its cover, the place of its first cube, its length and the literals of its path.
+// A list that stands in the room: the place of its first cube, its length, the literals of its path and its cover.
+// Kept: the place and the length as u32, where the room has usize: an entry has three words so, and both fit, since a place and
+// what may still be listed from it on stay within 2 ^ 32 (`list.Generating.Listable`).
 #[derive(Clone, Copy)]
 pub struct Found {
-    pub from: usize,
-    pub size: usize,
+    pub from: u32,
+    pub size: u32,
     pub literals: u32,
     pub cover: u16,
 }

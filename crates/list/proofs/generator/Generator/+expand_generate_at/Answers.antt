@@ -111,8 +111,14 @@ generate_at-returns-in_err-cover-clause-list t c = cover_full c.args.self.now c.
 pub generate_at-overflow_sub-found : goal.generate_at-overflow_sub-found
 generate_at-overflow_sub-found t c = list_place c.args.self.now c.args.path c.requires.roots c.if-l-eq0.false c.if-u-eq1.false c.expand.new.self c.in_ok-covers.covers c.in_ok-covers.ensures.same.table.slices.columns c.in_ok-covers.ensures.lists c.join.new.operations c.in_ok-cover.cover c.in_ok-cover.ensures.made
 
+pub generate_at-overflow_cast-found : goal.generate_at-overflow_cast-found
+generate_at-overflow_cast-found t c = omega (arith, (keep_asks c.args.self.now c.args.path c.requires.roots c.if-l-eq0.false c.if-u-eq1.false c.expand.new.self c.in_ok-covers.covers c.in_ok-covers.ensures.same.table.slices.columns c.in_ok-covers.ensures.lists c.join.new.operations c.in_ok-cover.cover c.in_ok-cover.ensures.made).1)
+
+pub generate_at-overflow_cast-found-2 : goal.generate_at-overflow_cast-found-2
+generate_at-overflow_cast-found-2 t c = omega (arith, (keep_asks c.args.self.now c.args.path c.requires.roots c.if-l-eq0.false c.if-u-eq1.false c.expand.new.self c.in_ok-covers.covers c.in_ok-covers.ensures.same.table.slices.columns c.in_ok-covers.ensures.lists c.join.new.operations c.in_ok-cover.cover c.in_ok-cover.ensures.made).2)
+
 pub generate_at-keep-requires : goal.generate_at-keep-requires
-generate_at-keep-requires t c = keep_asks c.args.self.now c.args.path c.requires.roots c.if-l-eq0.false c.if-u-eq1.false c.expand.new.self c.in_ok-covers.covers c.in_ok-covers.ensures.same.table.slices.columns c.in_ok-covers.ensures.lists c.join.new.operations c.in_ok-cover.cover c.in_ok-cover.ensures.made
+generate_at-keep-requires t c = (keep_asks c.args.self.now c.args.path c.requires.roots c.if-l-eq0.false c.if-u-eq1.false c.expand.new.self c.in_ok-covers.covers c.in_ok-covers.ensures.same.table.slices.columns c.in_ok-covers.ensures.lists c.join.new.operations c.in_ok-cover.cover c.in_ok-cover.ensures.made).0
 
 pub generate_at-returns-clause-list : goal.generate_at-returns-clause-list
 generate_at-returns-clause-list t c = list-listed c.args.self.now c.args.path c.requires.roots c.if-l-eq0.false c.if-u-eq1.false c.expand.new.self c.in_ok-covers.covers c.in_ok-covers.ensures.same.table.slices.columns c.in_ok-covers.ensures.lists c.join.new.operations c.in_ok-cover.cover c.in_ok-cover.ensures.made
