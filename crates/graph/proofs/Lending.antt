@@ -7,7 +7,7 @@ use Rattle.rule.specs.declared.refusal.Refusal.{Refusal}
 use Rattle.rule.specs.Refusal.{first_broken, passed, some_number}
 use Rattle.graph.specs.Table.{table_of, half_of, number_at}
 use Rattle.graph.specs.Sound.{Held}
-use Rattle.graph.specs.Lent.{read, table, table_tests, HeldIn, SharesIn}
+use Rattle.graph.specs.Lent.{read, table, table_tests, HeldIn, SharesIn, SameSlices, Grown}
 use Rattle.graph.specs.Entry.{table_conditions}
 use Rattle.graph.specs.declared.table.TableRef.{TableRef}
 use Rattle.graph.specs.declared.table.HalvesOf.{HalvesOf}
@@ -30,3 +30,16 @@ module _ (t : TableMut) (s : TableRef) (q : SharesIn t s) where
   pub read_halves : (k : ℕ) (x : ℕ) {f : HalvesOf} → (f.low ≡ half_of (read s) k false x) × (f.high ≡ half_of (read s) k true x) →
       (f.low ≡ half_of (table t) k false x) × (f.high ≡ half_of (table t) k true x)
   read_halves k x d = (d.0 ∙ (λ i. half_of (read_table i) k false x), d.1 ∙ (λ i. half_of (read_table i) k true x))
+
+-- A table that was built in has the same slices.
+pub grown_slices : {t t' : TableMut} → Grown t t' → SameSlices t t'
+grown_slices g =
+    record {
+      columns = g.columns;
+      level = g.level;
+      low = g.low;
+      high = g.high;
+      level-long = g.level-long;
+      low-long = g.low-long;
+      high-long = g.high-long;
+    }

@@ -66,6 +66,18 @@ pub record SameSlices (t : TableMut) (t' : TableMut) : Type 0 where
   pub low-long : length t'.low.now ≡ length t.low.now
   pub high-long : length t'.high.now ≡ length t.high.now
 
+-- The same of a table that was built in, whatever was answered: the count has not fallen, and fits the table if it did before.
+pub record Grown (t : TableMut) (t' : TableMut) : Type 0 where
+  pub columns : t'.columns ≡ t.columns
+  pub level : t'.level.ghost_name ≡ t.level.ghost_name
+  pub low : t'.low.ghost_name ≡ t.low.ghost_name
+  pub high : t'.high.ghost_name ≡ t.high.ghost_name
+  pub level-long : length t'.level.now ≡ length t.level.now
+  pub low-long : length t'.low.now ≡ length t.low.now
+  pub high-long : length t'.high.now ≡ length t.high.now
+  pub more : t.count ≤ t'.count
+  pub fits : t.count ≤ length t.level.now → t'.count ≤ length t'.level.now
+
 -- What a building function makes of a table: a number, or nothing where there is no room for it.
 abbrev pub MadeIn : TableMut → TableMut → ℕ → (m : ℕ) → Fn m → Option ℕ → Type 0
 MadeIn t t' k m f r = MadeOf t.columns t.count t.level.now t.low.now t.high.now t'.level.now t'.low.now t'.high.now k m f t'.count r

@@ -1,9 +1,9 @@
 // Building: making a node, and one recursive operation for and, or and difference.
-ghost use Rattle.std.specs.Prelude.{◌≡◌, ℕ, suc, ◌+◌, ◌≤◌, length};
+ghost use Rattle.std.specs.Prelude.{◌≡◌, ℕ, suc, ◌+◌, ◌≤◌, length, None};
 ghost use Rattle.rule.specs.Func.{joined};
 ghost use Rattle.graph.specs.Table.{fn_of, node_fn};
 ghost use Rattle.graph.specs.Operation.{op_of};
-ghost use Rattle.graph.specs.Lent.{table, SameSlices, HalvesIn, RootsIn, MadeIn, SharesIn, GivenBack};
+ghost use Rattle.graph.specs.Lent.{table, SameSlices, Grown, HalvesIn, RootsIn, MadeIn, SharesIn, GivenBack};
 
 use crate::operation::Op;
 use crate::table::TableRef;
@@ -35,8 +35,9 @@ impl TableMut<'_> {
     // The number of the node of column k with a low and a high number, or none where there is no room for it.
     pub fn make(&mut self, k: u16, l: u16, h: u16) -> Option<u16>
         requires { HalvesIn self.old k l h }
-        ensures same { SameSlices self.old self.new }
+        ensures same { Grown self.old self.new }
         ensures made { (m : ℕ) → k + suc m ≡ self.old.columns → MadeIn self.old self.new k (suc m) (node_fn (table self.old) k m l h) result }
+        ensures kept { result ≡ None → self.new.count ≡ self.old.count }
     {
         if l == h {
             return Some(l);
@@ -58,7 +59,7 @@ impl TableMut<'_> {
     // The number of an operation of two numbers, over the columns from column k on, or none where there is no room for it.
     pub fn apply(&mut self, op: Op, k: u16, a: u16, b: u16) -> Option<u16>
         requires { RootsIn self.old k a b }
-        ensures same { SameSlices self.old self.new }
+        ensures same { Grown self.old self.new }
         ensures made { (m : ℕ) → k + m ≡ self.old.columns → MadeIn self.old self.new k m (joined (op_of op) m (fn_of (table self.old) k m a) (fn_of (table self.old) k m b)) result }
     {
         if let Some(x) = op.known(a, b) {

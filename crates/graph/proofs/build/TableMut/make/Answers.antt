@@ -1,5 +1,5 @@
 -- `graph::build::TableMut::make` meets its contract: each way out is a law of `Making`.
-use mathlib.Core.Path.{◌∙◌}
+use mathlib.Core.Path.{refl, ◌∙◌}
 use native.Mathlib.Omega.{arith}
 use Rattle.graph.specs.Built.{MadeOf}
 use Rattle.graph.proofs.Lending.{read_number}
@@ -19,6 +19,9 @@ unfolding MadeOf
 returns-then-self-clause-made c =
     let none = not_there _ (c.in_default.ensures ∙ read_number _ _ c.reading.ensures _ _ _) in
     λ m e. made_full _ _ _ _ _ _ _ _ c.requires m e c.if-l-h.false none c.if-self.true
+
+pub returns-then-self-clause-kept : goal.returns-then-self-clause-kept
+returns-then-self-clause-kept c = λ e. refl
 
 pub returns-clause-made : goal.returns-clause-made
 unfolding MadeOf
