@@ -2,7 +2,7 @@
 ghost use Rattle.std.specs.Prelude.{◌≡◌, ℕ, ◌+◌};
 ghost use Rattle.rule.specs.Cube.{cube_fn};
 ghost use Rattle.rule.specs.Number.{signs_from};
-ghost use Rattle.graph.specs.Lent.{SameSlices, MadeIn};
+ghost use Rattle.graph.specs.Lent.{Grown, MadeIn};
 ghost use Rattle.rows.specs.Naming.{SoundFrom};
 
 use graph::build::TableMut;
@@ -11,7 +11,7 @@ use graph::build::TableMut;
 // is no room for it.
 pub fn cube_from(table: &mut TableMut<'_>, k: u16, ones: u32, zeros: u32) -> Option<u16>
     requires { SoundFrom table.old k }
-    ensures same { SameSlices table.old table.new }
+    ensures same { Grown table.old table.new }
     ensures made { (m : ℕ) → k + m ≡ table.old.columns → MadeIn table.old table.new k m (cube_fn m (signs_from m ones zeros)) result }
 {
     if k == table.columns {

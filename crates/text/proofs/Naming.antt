@@ -13,6 +13,7 @@ use Rattle.graph.specs.Table.{table_of, functions}
 use Rattle.graph.specs.Sound.{Sound, RootedTwice}
 use Rattle.graph.specs.Run.{Names}
 use Rattle.graph.proofs.Tests.{constant-refers}
+use Rattle.graph.proofs.Lending.{grown_slices}
 use Rattle.graph.proofs.Numbers.{fn_zero}
 use Rattle.line.specs.Bytes.{lines}
 use Rattle.line.specs.Meaning.{is_end, row_of}
@@ -20,7 +21,7 @@ use Rattle.line.specs.declared.meaning.Out.{Out}
 use Rattle.line.specs.declared.meaning.Line.{Line}
 use Rattle.line.specs.declared.meaning.Line.TheVariants.{Empty, Columns, Output, Typed, Count, Row as a_row, End, Bad}
 use Rattle.graph.specs.Built.{MadeOf}
-use Rattle.graph.specs.Lent.{SameSlices, MadeIn}
+use Rattle.graph.specs.Lent.{SameSlices, Grown, MadeIn}
 use Rattle.graph.specs.declared.build.TableMut.{TableMut}
 use Rattle.memo.specs.Memo.{SameTable}
 use Rattle.memo.specs.declared.build.Operations.{Operations}
@@ -111,8 +112,23 @@ slices_then a b =
       high-long = b.high-long ∙ a.high-long;
     }
 
+pub grown_then : {s s' s'' : TableMut} → Grown s s' → Grown s' s'' → Grown s s''
+grown_then a b =
+    let s = slices_then (grown_slices a) (grown_slices b) in
+    record {
+      columns = s.columns;
+      level = s.level;
+      low = s.low;
+      high = s.high;
+      level-long = s.level-long;
+      low-long = s.low-long;
+      high-long = s.high-long;
+      more = omega (arith, a.more, b.more);
+      fits = λ f. b.fits (a.fits f);
+    }
+
 pub table_then : {o o' o'' : Operations} → SameTable o o' → SameTable o' o'' → SameTable o o''
-table_then a b = record { name = b.name ∙ a.name; slices = slices_then a.slices b.slices }
+table_then a b = record { name = b.name ∙ a.name; slices = grown_then a.slices b.slices }
 
 -- What a row's naming promises of the table's columns it promises of the text's, which are as many.
 pub row-named : (o o' : Operations) (k : Kind) (s : Sets) (x : ℕ) (out : Out) (r : Option Sets) {n : ℕ} → o.table.now.columns ≡ n
