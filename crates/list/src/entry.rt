@@ -1,6 +1,6 @@
 // The entry of the generator: every input is answered, bad ones by document 01's refusals.
 ghost use Rattle.std.specs.Prelude.{◌≡◌};
-ghost use Rattle.graph.specs.Lent.{SameSlices};
+ghost use Rattle.graph.specs.Lent.{SameSlices, Grown};
 ghost use Rattle.memo.specs.Memo.{SameTable, HoldsIn};
 ghost use Rattle.list.specs.Entry.{GeneratesIn};
 ghost use Rattle.list.specs.Generating.{Nested, FilledIn};
@@ -43,7 +43,7 @@ fn list_all(
 // table is known here.
 fn fill(table: &mut TableMut<'_>, lower: u16, upper: u16, room: &mut [u32]) -> Option<usize>
     requires { Nested table.old lower upper }
-    ensures same { SameSlices table.old table.new }
+    ensures same { Grown table.old table.new }
     ensures filled { FilledIn table.old lower upper room.old table.new room.new result }
 {
     let memo = Memo::new();

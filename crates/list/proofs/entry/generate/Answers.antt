@@ -1,4 +1,5 @@
 -- `list::entry::generate` meets its contract: each way out is a law of `Entering`.
+use Rattle.graph.proofs.Lending.{grown_slices}
 use Rattle.list.proofs.Entering.{input_refused, good_nested, back_asks, nodes-lack, list-lacks, list_delivered}
 use Rattle.list.proofs.entry.generate.Goals as goal
 
@@ -10,7 +11,7 @@ pub fill-filled-requires : goal.fill-filled-requires
 fill-filled-requires c = good_nested c.args.table.now _ _ c.args.room.now c.reading.ensures c.in_ok-input_refusal.ensures
 
 pub give_back-requires : goal.give_back-requires
-give_back-requires c = back_asks c.args.table.now _ _ c.args.room.now c.reading.ensures c.in_ok-input_refusal.ensures c.fill-filled.ensures.same
+give_back-requires c = back_asks c.args.table.now _ _ c.args.room.now c.reading.ensures c.in_ok-input_refusal.ensures (grown_slices c.fill-filled.ensures.same)
 
 pub returns-in_default-clause-generates : goal.returns-in_default-clause-generates
 returns-in_default-clause-generates c =
