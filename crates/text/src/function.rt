@@ -1,6 +1,6 @@
 // Reading a function text: all lines are judged first, then the rows are named in the table through the same lines.
 ghost use Rattle.std.specs.Prelude.{◌≡◌, ◌≤◌, length};
-ghost use Rattle.graph.specs.Lent.{SameSlices};
+ghost use Rattle.graph.specs.Lent.{SameSlices, Grown};
 ghost use Rattle.line.specs.Bytes.{lines};
 ghost use Rattle.line.specs.Meaning.{kind_of};
 ghost use Rattle.memo.specs.Memo.{SameTable, HoldsIn, HoldsAfterIn};
@@ -67,7 +67,7 @@ fn name_all(text: &[u8], operations: &mut Operations<'_, '_>, kind: Kind) -> Opt
 fn name_roots(text: &[u8], table: &mut TableMut<'_>, kind: Kind) -> Option<(u16, u16)>
     requires text { length text.now ≤ 32768 }
     requires empty { EmptyIn table.old }
-    ensures same { SameSlices table.old table.new }
+    ensures same { Grown table.old table.new }
     ensures roots { RootsNamedIn table.old (kind_of kind) (rows_in table.old.columns (lines text.now)) table.new result }
 {
     let memo = Memo::new();
@@ -79,7 +79,7 @@ fn name_roots(text: &[u8], table: &mut TableMut<'_>, kind: Kind) -> Option<(u16,
 fn build_function(text: &[u8], table: &mut TableMut<'_>, kind: Kind) -> Result<Function, Refused>
     requires text { length text.now ≤ 32768 }
     requires empty { EmptyIn table.old }
-    ensures same { SameSlices table.old table.new }
+    ensures same { Grown table.old table.new }
     ensures built { BuiltIn table.old (kind_of kind) (rows_in table.old.columns (lines text.now)) table.new result }
 {
     let Some((lower, upper)) = name_roots(text, table, kind) else {
