@@ -9,9 +9,9 @@ use crate::table::TableRef;
 
 impl TableRef<'_> {
     // The value of a number at a point of the columns from column k on, by one call for each column.
-    pub fn value_from(self, k: u16, x: u16, point: u32) -> bool
-        requires { RootIn self k x }
-        ensures { (m : ℕ) → k + m ≡ self.entry.columns → result ≡ at m (fn_of (read self.entry) k m x) (digits m point) }
+    pub fn value_from(&self, k: u16, x: u16, point: u32) -> bool
+        requires { RootIn self.now k x }
+        ensures { (m : ℕ) → k + m ≡ self.now.columns → result ≡ at m (fn_of (read self.now) k m x) (digits m point) }
     {
         if k == self.columns {
             return x == 1;
@@ -21,9 +21,9 @@ impl TableRef<'_> {
     }
 
     // Whether the function of one number lies within that of another, over the columns from column k on.
-    pub fn within_from(self, k: u16, a: u16, b: u16) -> bool
-        requires { RootsToRead self k a b }
-        ensures { (m : ℕ) → k + m ≡ self.entry.columns → result ≡ within m (fn_of (read self.entry) k m a) (fn_of (read self.entry) k m b) }
+    pub fn within_from(&self, k: u16, a: u16, b: u16) -> bool
+        requires { RootsToRead self.now k a b }
+        ensures { (m : ℕ) → k + m ≡ self.now.columns → result ≡ within m (fn_of (read self.now) k m a) (fn_of (read self.now) k m b) }
     {
         if a == 0 || b == 1 || a == b {
             return true;

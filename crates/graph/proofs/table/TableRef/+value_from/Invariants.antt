@@ -4,4 +4,4 @@ use Prim.Native.Nat.{◌-◌}
 use Rattle.graph.proofs.table.TableRef.+value_from.Given as goal
 
 abbrev pub decreases-value_from : goal.decreases-value_from
-decreases-value_from l = l.self.columns - l.k
+decreases-value_from l = l.self.now.columns - l.k

@@ -4,4 +4,4 @@ use Prim.Native.Nat.{◌-◌}
 use Rattle.graph.proofs.table.TableRef.+within_from.Given as goal
 
 abbrev pub decreases-within_from : goal.decreases-within_from
-decreases-within_from l = l.self.columns - l.k
+decreases-within_from l = l.self.now.columns - l.k
