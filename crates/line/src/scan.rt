@@ -4,6 +4,7 @@ ghost use Rattle.line.specs.Bytes.{is_blank, is_newline, until, from};
 ghost use Rattle.line.specs.Scan.{test_of, first_field, rest_fields};
 
 // The classes of bytes: byte 10, "#", spaces and tabs, and all but spaces and tabs.
+// Kept: a class and no closure, since a function that takes a closure asks that it may be called, and these ask nothing.
 #[derive(Clone, Copy)]
 pub enum Class {
     Newline,
