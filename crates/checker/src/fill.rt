@@ -9,9 +9,9 @@ use graph::table::TableRef;
 use words::{table as whole, word};
 
 // The word of a number over the columns from column k on, at most six.
-fn word_from(table: TableRef<'_>, k: u16, x: u16) -> u64
-    requires { RootWordIn table k x }
-    ensures { (m : ℕ) → k + m ≡ table.entry.columns → result ≡ num m (fn_of (read table.entry) k m x) }
+fn word_from(table: &TableRef<'_>, k: u16, x: u16) -> u64
+    requires { RootWordIn table.now k x }
+    ensures { (m : ℕ) → k + m ≡ table.now.columns → result ≡ num m (fn_of (read table.now) k m x) }
 {
     if x < 2 {
         return word::constant_word(table.columns - k, x == 1);
@@ -23,9 +23,9 @@ fn word_from(table: TableRef<'_>, k: u16, x: u16) -> u64
 }
 
 // Makes a slice the table of a number over the columns from column k on.
-pub fn fill_from(s: &mut [u64], table: TableRef<'_>, k: u16, x: u16)
-    requires { RootTableIn table k x s.old }
-    ensures { (m : ℕ) → k + m ≡ table.entry.columns → s.new ≡ words m (fn_of (read table.entry) k m x) }
+pub fn fill_from(s: &mut [u64], table: &TableRef<'_>, k: u16, x: u16)
+    requires { RootTableIn table.now k x s.old }
+    ensures { (m : ℕ) → k + m ≡ table.now.columns → s.new ≡ words m (fn_of (read table.now) k m x) }
 {
     if x < 2 {
         whole::fill(s, table.columns - k, x == 1);

@@ -34,8 +34,8 @@ fn fill_tables(on: &mut [u64], off: &mut [u64], table: TableRef<'_>, lower: u16,
     requires { RootTablesIn table lower upper on.old off.old }
     ensures { TablesFilledIn table.entry lower upper on.new off.new }
 {
-    fill::fill_from(on, table, 0, lower);
-    fill::fill_from(off, table, 0, upper);
+    fill::fill_from(on, &table, 0, lower);
+    fill::fill_from(off, &table, 0, upper);
     whole::outside(off, table.columns);
 }
 

@@ -4,4 +4,4 @@ use Prim.Native.Nat.{◌-◌}
 use Rattle.checker.proofs.fill.+fill_from.Given as goal
 
 abbrev pub decreases-fill_from : goal.decreases-fill_from
-decreases-fill_from l = l.table.columns - l.k
+decreases-fill_from l = l.table.now.columns - l.k

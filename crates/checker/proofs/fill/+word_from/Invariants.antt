@@ -4,4 +4,4 @@ use Prim.Native.Nat.{◌-◌}
 use Rattle.checker.proofs.fill.+word_from.Given as goal
 
 abbrev pub decreases-word_from : goal.decreases-word_from
-decreases-word_from l = l.table.columns - l.k
+decreases-word_from l = l.table.now.columns - l.k
