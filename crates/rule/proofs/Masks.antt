@@ -1,15 +1,15 @@
 -- The tests on whole numbers are the tests column by column: the bits that must be 1 are kept by the point's and those
 -- that must be 0 are not, and two halves below the last column share no bit. Each goes by the lowest bits and the halves.
-use mathlib.Core.Path.{◌≡◌, refl, sym, ap, ap₂, ◌∙◌}
-use mathlib.Core.Bool.{Bool, true, false, not, ◌&&◌, and_assoc, and-false}
+use mathlib.Core.Path.{◌≡◌, refl, sym, ap, ap₂, subst⁻¹, ◌∙◌}
+use mathlib.Core.Bool.{Bool, true, false, not, ◌&&◌, ◌||◌, and_assoc, and-false}
 use Prim.Native.Nat.{ℕ, zero, suc, ◌*◌, ◌/◌, ◌%◌, ◌^◌, ◌<◌, ◌≤◌, min}
-use native.Mathlib.Nat.{pow-succ'}
+use native.Mathlib.Nat.{pow-succ', min-eq_right}
 use native.Mathlib.Omega.{arith}
 use lib.Arith.{lt-one}
 use lib.Bits.{bit_and, and_step}
-use lib.Dec.{eqb, ltb}
+use lib.Dec.{eqb, leb, ltb}
 use lib.Pow.{pow_mono}
-use borrow.Author.Tests.{eqb-true, eqb-false, eq-eqb, ne_eqb, ltb-true, lt-ltb}
+use borrow.Author.Tests.{eqb-true, eqb-false, eq-eqb, ne_eqb, leb-true, ltb-true, lt-ltb}
 use Rattle.std.specs.Cmp.{both_ways}
 use Rattle.rule.specs.Point.{bit, odd}
 use Rattle.rule.specs.Number.{apart, well_formed, agree, number_covers}
@@ -144,3 +144,22 @@ pub well_formed_capped : (m x : ℕ) → x < 2 ^ 32 → well_formed m x ≡
 well_formed_capped m x h =
     well_formed_masks m x ∙
     ap₂ (λ a b. eqb (bit_and (x % 65536) (x / 65536)) 0 && (a && b)) (capped m (x % 65536) (omega arith)) (capped m (x / 65536) (omega arith))
+
+-- From 16 columns on every half stays below.
+pub well_formed_wide : (m x : ℕ) → x < 2 ^ 32 → well_formed m x ≡
+    (eqb (bit_and (x % 65536) (x / 65536)) 0 &&
+    (leb 16 m || (ltb (x % 65536) (1 * 2 ^ min m 16 % 4294967296) && ltb (x / 65536) (1 * 2 ^ min m 16 % 4294967296))))
+well_formed_wide m x h = go (leb 16 m) refl
+  where
+    half : ℕ → Bool
+    half y = ltb y (1 * 2 ^ min m 16 % 4294967296)
+
+    below : 16 ≤ m → (y : ℕ) → y < 65536 → half y ≡ true
+    below l y k = lt-ltb y (1 * 2 ^ min m 16 % 4294967296) (subst⁻¹ (λ i. y < 1 * 2 ^ i % 4294967296) (min-eq_right l) k)
+
+    go : (b : Bool) → leb 16 m ≡ b → well_formed m x ≡
+        (eqb (bit_and (x % 65536) (x / 65536)) 0 && (b || (half (x % 65536) && half (x / 65536))))
+    go true e =
+        well_formed_capped m x h ∙
+        ap₂ (λ a b. eqb (bit_and (x % 65536) (x / 65536)) 0 && (a && b)) (below (leb-true 16 m e) (x % 65536) (omega arith)) (below (leb-true 16 m e) (x / 65536) (omega arith))
+    go false e = well_formed_capped m x h

@@ -23,14 +23,14 @@ pub fn list_literals(list: &[u32]) -> u64
 }
 
 // Whether a number is a well-formed cube of some columns: no column has both bits, none beyond the last has one.
-#[tactic(auto, using(crate::proofs::Masks::well_formed_capped))]
+#[tactic(auto, using(crate::proofs::Masks::well_formed_wide))]
 pub fn well_formed(columns: u16, cube: u32) -> bool
     ensures { result ≡ well_formed columns cube }
 {
     let ones = cube % 65536;
     let zeros = cube / 65536;
     let beyond = 1u32 << columns.min(16);
-    (ones & zeros) == 0 && ones < beyond && zeros < beyond
+    (ones & zeros) == 0 && (16 <= columns || (ones < beyond && zeros < beyond))
 }
 
 // The position of the first malformed cube of a list, from 1.
