@@ -34,7 +34,7 @@ use Rattle.graph.proofs.Roots.{input_below, past_input, input_sound, input_insid
 use Rattle.graph.proofs.Clearing.{cleared_alike}
 use Rattle.graph.proofs.Records.{functions-length}
 use Rattle.listmemo.specs.Copy.{numbers_under}
-use Rattle.list.specs.Generating.{Listable, ListedDone, ListedFull, ListedOf, SameRooms, Nested, FilledIn}
+use Rattle.list.specs.Generating.{Listable, ListedDone, ListedFull, ListedOf, Nested, FilledIn}
 use Rattle.list.specs.declared.generator.Generator.{Generator}
 use Rattle.list.proofs.Calls.{ListPromise}
 use Rattle.list.specs.Entry.{numbers_of, numbers_for, lower, upper, the_list, room_conditions, refusal, answer_for, changes_nothing, table_left, room_left, Generates, GeneratesIn}
@@ -275,7 +275,7 @@ module _ (t : TableMut) (a : ℕ) (b : ℕ) (room : List ℕ) where
       list_delivered size f l = delivered t.columns t.count t.level.now t.low.now t.high.now a b room good t₁.count t₁.level.now t₁.low.now t₁.high.now room₂ zeros back.count back.level back.low back.high f.1 l
 
 -- What a generator says of a list from column 0 on fills the room.
-module _ {g : Generator} {g' : Generator} (a : ℕ) (b : ℕ) {t' : TableMut} {room : List ℕ} (s : SameRooms g g') (z : g.at ≡ 0) (e : t' ≡ g'.operations.now.table.now) (d : room ≡ g'.room.now) where
+module _ (g : Generator) (g' : Generator) (a : ℕ) (b : ℕ) {t' : TableMut} {room : List ℕ} (z : g.at ≡ 0) (e : t' ≡ g'.operations.now.table.now) (d : room ≡ g'.room.now) where
   from_start : (r : Option ℕ) → ListPromise g (record { k = 0; weight = 1; chosen = 0 }) a b g' r →
       (let t = g.operations.now.table.now in
       ListedOf t.columns t.count t.level.now t.low.now t.high.now t'.level.now t'.low.now t'.high.now g.room.now room 0 0 1 0 t.columns (fn_of (table t) 0 t.columns a) (fn_of (table t) 0 t.columns b) t'.count g'.at r)

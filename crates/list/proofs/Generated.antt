@@ -26,7 +26,7 @@ use Rattle.graph.specs.Run.{Run, Short, Names}
 use Rattle.graph.proofs.Tests.{constant-refers}
 use Rattle.graph.proofs.Numbers.{fn_zero, fn_one, equal_numbers}
 use Rattle.graph.proofs.Runs.{run_none, run_then, run_short, short-more, built-run, built-names, lacking_short}
-use Rattle.memo.specs.Memo.{HoldsAfter}
+use Rattle.memo.specs.Memo.{HoldsAfter, HoldsAfterIn}
 use Rattle.memo.specs.declared.build.Operations.{Operations}
 use Rattle.steps.specs.Step.{named_kept, ThreeRoots, CoversIn, joined_covers}
 use Rattle.steps.specs.declared.step.Covers.{Covers}
@@ -37,7 +37,7 @@ use Rattle.list.specs.Generating.{named_c, named_rest, named_b, named_a, Listabl
 use Rattle.list.specs.declared.generator.Generator.{Generator}
 use Rattle.list.specs.declared.generator.Path.{Path}
 use Rattle.list.proofs.Remembering.{memos_on, memos_put, place-on, may_be_kept, memos_kept}
-use Rattle.list.proofs.Calls.{with_operations, columns_of, JoinPromise, ListPromise, ListsPromise, JoinGives, ListsGive, done_memos, same_listed, same_memos}
+use Rattle.list.proofs.Calls.{with_operations, columns_of, JoinPromise, ListPromise, ListsPromise, ListsGive, done_memos, same_listed, same_memos}
 
 -- A list that is known, with what it names and covers: its promise over that list is one over the rule's.
 pub known_list : {n : ℕ} {c : ℕ} {v : List ℕ} {l : List ℕ} {h : List ℕ} {v' : List ℕ} {l' : List ℕ} {h' : List ℕ} (room : List ℕ) (room' : List ℕ) (at : ℕ) (chosen : ℕ) (w : ℕ) (k : ℕ) (m : ℕ) (L : Fn m) (U : Fn m) (cs : List Cube) (ts : List Tree) (g : ℕ) (c' : ℕ) (at' : ℕ) → list_of m L U ≡ cs → named m L U ≡ ts →
@@ -224,26 +224,22 @@ module _ (g : Generator) (p : Path) {a : ℕ} {b : ℕ} (q : ListableIn g p a b)
         pub keep_asks : (p.k < 64) × (g.at < 4294967296) × (g₁.at - g.at < 4294967296)
         keep_asks = may_be_kept q listed
 
-    -- The memos after the three lists, and after their cover.
-    module _ {g₁ : Generator} (s : Covers) (h : ListsGive g p a b g₁ (Some s)) where
-      pub three_memos : MemosIn g₁
-      three_memos = done_memos g₁ s h.memos
-
-      module _ {o : Operations} (x : ℕ) (k : JoinGives g₁.operations.now p s o (Some x)) where
-        pub cover_memos : MemosIn (with_operations g₁ o)
+        -- The memos after the cover, and once the list is kept.
+        pub cover_memos : MemosIn g₁ → o.table.now.columns ≡ columns_of g₁ → HoldsAfterIn o (Some x) → MemosIn (with_operations g₁ o)
         unfolding MadeOf HoldsAfter
-        cover_memos =
-            let columns = h.same.table.slices.columns in
+        cover_memos w e d =
             let u = (expands dl du).column in
             let m : ℕ = columns_of g - (p.k + 1) in
             let i : p.k + suc m ≡ columns_of g = omega (arith, u) in
-            memos_on (join_asks g₁ s columns h.lists).sound three_memos _ k.same.slices.columns (built-run (k.made m (i ∙ sym columns))) k.memo
+            memos_on join_asks.sound w _ e (built-run (k m (i ∙ sym columns))) d
 
-        -- Once the list is kept.
-        pub list-memos : {past : List Entry} →
+        pub list-memos : {past : List Entry} → MemosIn g₁ → o.table.now.columns ≡ columns_of g₁ → HoldsAfterIn o (Some x) →
             ((n : ℕ) (c : ℕ) (v : List ℕ) (l : List ℕ) (h : List ℕ) (room : List ℕ) (at : ℕ) → Keeps n c v l h room at g₁.past.entries → Stands n c v l h room at a b p.k x g.at (g₁.at - g.at) p.chosen → Keeps n c v l h room at past) →
             (let t = o.table.now in
             Memos t.columns t.count t.level.now t.low.now t.high.now g₁.room.now g₁.at o.memo.entries past)
-        list-memos f =
-            let columns = h.same.table.slices.columns in
-            memos_kept q (listed g₁ s columns h.lists o x k.made) (k.same.slices.columns ∙ columns) cover_memos f
+        list-memos w e d f = memos_kept q listed (e ∙ columns) (cover_memos w e d) f
+
+    -- The memos after the three lists.
+    module _ {g₁ : Generator} (s : Covers) (h : ListsGive g p a b g₁ (Some s)) where
+      pub three_memos : MemosIn g₁
+      three_memos = done_memos g₁ s h.memos

@@ -12,7 +12,9 @@ pub generate_at-requires-clause-memos : goal.generate_at-requires-clause-memos
 generate_at-requires-clause-memos c = memos_begin c.requires.memo c.new.ensures
 
 pub returns-in_err-generate_at-clause-filled : goal.returns-in_err-generate_at-clause-filled
-returns-in_err-generate_at-clause-filled c = none_filled _ _ c.in_err-generate_at.ensures.same refl (search rules) (search rules) c.from_residual.ensures c.in_err-generate_at.ensures.list
+returns-in_err-generate_at-clause-filled c =
+    none_filled (record { operations = c.args.operations; past = c.new.result; room = c.args.room; at = 0 }) c.generate_at.new.self _ _ refl (search rules) (search rules) c.from_residual.ensures c.in_err-generate_at.ensures.list
 
 pub returns-clause-filled : goal.returns-clause-filled
-returns-clause-filled c = all_filled _ _ c.in_ok-generate_at.ensures.same refl (search rules) (search rules) c.in_ok-generate_at.field-0 c.in_ok-generate_at.ensures.list
+returns-clause-filled c =
+    all_filled (record { operations = c.args.operations; past = c.new.result; room = c.args.room; at = 0 }) c.generate_at.new.self _ _ refl (search rules) (search rules) c.in_ok-generate_at.field-0 c.in_ok-generate_at.ensures.list

@@ -6,7 +6,7 @@ use Rattle.list.specs.Generating.{MemosAfter}
 use Rattle.list.proofs.Calls.{done_memos}
 use Rattle.list.proofs.Lists.{kept_full, after_keep, keep_memos, a_asks, a_full, after_list_a, b_asks, b_full, after_list_b, rest_asks, left_full, after_left, left_memos, c_asks, c_full, lists-done}
 use Rattle.list.proofs.Hit.{find_asks, copy_asks, hit_listed, hit_memos}
-use Rattle.list.proofs.Generated.{none-listed, put_asks, one_listed, one_memos, expands, three_full, join_asks, cover_full, list_place, keep_asks, list-listed, list-memos}
+use Rattle.list.proofs.Generated.{none-listed, put_asks, one_listed, one_memos, expands, three_full, join_asks, cover_full, list_place, keep_asks, list-listed, three_memos, list-memos}
 use Rattle.list.proofs.generator.Generator.+expand_generate_at.Goals as goal
 
 pub expand-returns-in_err-kept-clause-lists : goal.expand-returns-in_err-kept-clause-lists
@@ -125,4 +125,9 @@ generate_at-returns-clause-list t c = list-listed c.args.self.now c.args.path c.
 
 pub generate_at-returns-clause-memos : goal.generate_at-returns-clause-memos
 unfolding MemosAfter
-generate_at-returns-clause-memos t c = list-memos c.args.self.now c.args.path c.requires.roots c.if-l-eq0.false c.if-u-eq1.false c.in_ok-covers.covers c.in_ok-covers.ensures c.in_ok-cover.cover c.in_ok-cover.ensures c.keep.ensures
+generate_at-returns-clause-memos t c =
+    list-memos c.args.self.now c.args.path c.requires.roots c.if-l-eq0.false c.if-u-eq1.false c.expand.new.self c.in_ok-covers.covers c.in_ok-covers.ensures.same.table.slices.columns c.in_ok-covers.ensures.lists c.join.new.operations c.in_ok-cover.cover c.in_ok-cover.ensures.made
+    (three_memos c.args.self.now c.args.path c.requires.roots c.if-l-eq0.false c.if-u-eq1.false c.in_ok-covers.covers c.in_ok-covers.ensures)
+    c.in_ok-cover.ensures.same.slices.columns
+    c.in_ok-cover.ensures.memo
+    c.keep.ensures
